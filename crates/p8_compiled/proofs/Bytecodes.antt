@@ -3,12 +3,12 @@ use Rattle.std.proofs.Common.{◌≡◌, refl, sym, ap, subst, ℕ, ◌+◌, ◌
 use Rattle.p8_access.specs.declared.kinds.Width.TheVariants.{Word, Long}
 use Rattle.p8_tree.specs.declared.places.Place.{Place}
 use Rattle.p8_access.specs.Courses.{Course, Finish}
-use Rattle.p8_instr.specs.declared.op.Op.{Op}
-use Rattle.p8_instr.specs.declared.operands.Operands.{Operands}
-use Rattle.p8_instr.specs.declared.operands.Operands.TheVariants.{Nothing, OneByte, TwoBytes, ThreeBytes, Word, Triple, Long}
-use Rattle.p8_instr.specs.Table.{rows, operands_of}
-use Rattle.p8_instr.specs.Reading.{bare}
-use Rattle.p8_instr.specs.Spelling.{FitsOperands, IsOp}
+use Rattle.p8_bytecode.specs.declared.op.Op.{Op}
+use Rattle.p8_bytecode.specs.declared.operands.Operands.{Operands}
+use Rattle.p8_bytecode.specs.declared.operands.Operands.TheVariants.{Nothing, OneByte, TwoBytes, ThreeBytes, Word, Triple, Long}
+use Rattle.p8_bytecode.specs.Table.{rows, operands_of}
+use Rattle.p8_bytecode.specs.Reading.{bare}
+use Rattle.p8_bytecode.specs.Spelling.{FitsOperands, IsOp}
 use Rattle.p8_bcog.specs.declared.state.State.{State}
 use Rattle.p8_bcog.specs.Operands.{operand, taken, tested}
 use Rattle.p8_bcog.specs.Calls as calling

@@ -3,9 +3,9 @@ use Rattle.std.proofs.Common.{◌≡◌, refl, sym, ap, ◌∙◌, subst, arith,
 use Rattle.p8_tree.specs.Expressions.{Variable, Named, Part, Memory, Register}
 use Rattle.p8_tree.specs.Proper as proper
 use Rattle.p8_access.specs.Courses.{Course}
-use Rattle.p8_instr.specs.declared.op.Op.{Op}
-use Rattle.p8_instr.specs.Table.{is_effect, is_step}
-use Rattle.p8_instr.specs.Spelling.{IsChange, IsStep, IsOp}
+use Rattle.p8_bytecode.specs.declared.op.Op.{Op}
+use Rattle.p8_bytecode.specs.Table.{is_effect, is_step}
+use Rattle.p8_bytecode.specs.Spelling.{IsChange, IsStep, IsOp}
 use Rattle.p8_bcog.specs.declared.state.State.{State}
 use Rattle.p8_bcog.specs.declared.place.Place as place
 use Rattle.p8_bcog.specs.declared.step.Wanted.TheVariants as wanted_case

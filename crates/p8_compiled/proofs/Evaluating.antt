@@ -2,7 +2,7 @@
 use Rattle.std.proofs.Common.{◌≡◌, refl, sym, ap, subst, ◌∙◌, arith, ℕ, max, ◌+◌, ◌%◌, ◌^◌, ◌≤◌, ◌==◌, Bool, true, false, List, [], ◌∷◌, ◌++◌, length, Some, None, append_assoc, append-nil}
 use Rattle.std.proofs.Math.ListN.{length-append}
 use Rattle.p8_access.specs.Courses.{Finish}
-use Rattle.p8_tree.specs.Expressions.{Tree, node, Number, Str, Here, Var, Call, Unary, Binary, Assign, Change, Address, ObjectAddress, ObjConst, Built, Look, Variable, Named, Part, Memory, Register, Index, no_index, index, Bits, whole, bits, Item, single, range, Trees, no_trees, ◌▷◌, Items, no_items, ◌▸◌}
+use Rattle.p8_tree.specs.Expressions.{Tree, node, Number, Str, Strings, Here, Var, Call, Unary, Binary, Assign, Change, Address, ObjectAddress, ObjConst, Built, Look, Variable, Named, Part, Memory, Register, Index, no_index, index, Bits, whole, bits, Item, single, range, Trees, no_trees, ◌▷◌, Items, no_items, ◌▸◌}
 use Rattle.p8_words.specs.Operators.{unary_value, binary_value, or_zero}
 use Rattle.p8_bcog.specs.declared.marks.Mark.{Mark}
 use Rattle.p8_kinds.specs.Values as constants
@@ -31,6 +31,8 @@ module _ (w : Working) where
     evaluates-meets (node place (Number n)) p q h b base marks xs here fits few k m =
         λ f own le. by-gives t.memory t.cog t.table t.hand c p q base marks xs own here.low.low f (k n) n h (omega (arith, fits, (fits_stack w))) (m n f own le)
     evaluates-meets (node place (Str text)) p q h b base marks xs here fits few k m =
+        λ f own le. by-text t.memory t.cog t.table t.hand c p q base marks xs own here.low.low f _ (t.addresses.text t.number place) h (omega (arith, fits, (fits_stack w))) (m _ f own le)
+    evaluates-meets (node place (Strings es)) p q h b base marks xs here fits few k m =
         λ f own le. by-text t.memory t.cog t.table t.hand c p q base marks xs own here.low.low f _ (t.addresses.text t.number place) h (omega (arith, fits, (fits_stack w))) (m _ f own le)
     evaluates-meets (node place Here) p q h b base marks xs here fits few k m = absurd h
     evaluates-meets (node place (Var v)) p q h b base marks xs here fits few k m = variable-meets v p q h b base marks xs here fits (omega (arith, few)) k m
@@ -214,6 +216,7 @@ module _ (w : Working) where
     begins-meets used id (node place (Var (Register register x inside))) first second deep high b base marks m n p q h xs here fits few k goes = begun_pasm-meets w b base marks used id (standing.ValueAt t first) (standing.ValueAt t second) (expressions.evaluates callee (s w) abort first) (expressions.evaluates callee (s w) abort second) deep high m n p q h xs here fits k goes
     begins-meets used id (node place (Number x)) first second deep high b base marks m n p q h xs here fits few k goes = begun_pasm-meets w b base marks used id (standing.ValueAt t first) (standing.ValueAt t second) (expressions.evaluates callee (s w) abort first) (expressions.evaluates callee (s w) abort second) deep high m n p q h xs here fits k goes
     begins-meets used id (node place (Str text)) first second deep high b base marks m n p q h xs here fits few k goes = begun_pasm-meets w b base marks used id (standing.ValueAt t first) (standing.ValueAt t second) (expressions.evaluates callee (s w) abort first) (expressions.evaluates callee (s w) abort second) deep high m n p q h xs here fits k goes
+    begins-meets used id (node place (Strings es)) first second deep high b base marks m n p q h xs here fits few k goes = begun_pasm-meets w b base marks used id (standing.ValueAt t first) (standing.ValueAt t second) (expressions.evaluates callee (s w) abort first) (expressions.evaluates callee (s w) abort second) deep high m n p q h xs here fits k goes
     begins-meets used id (node place Here) first second deep high b base marks m n p q h xs here fits few k goes = begun_pasm-meets w b base marks used id (standing.ValueAt t first) (standing.ValueAt t second) (expressions.evaluates callee (s w) abort first) (expressions.evaluates callee (s w) abort second) deep high m n p q h xs here fits k goes
     begins-meets used id (node place (Unary operator e)) first second deep high b base marks m n p q h xs here fits few k goes = begun_pasm-meets w b base marks used id (standing.ValueAt t first) (standing.ValueAt t second) (expressions.evaluates callee (s w) abort first) (expressions.evaluates callee (s w) abort second) deep high m n p q h xs here fits k goes
     begins-meets used id (node place (Binary operator e d)) first second deep high b base marks m n p q h xs here fits few k goes = begun_pasm-meets w b base marks used id (standing.ValueAt t first) (standing.ValueAt t second) (expressions.evaluates callee (s w) abort first) (expressions.evaluates callee (s w) abort second) deep high m n p q h xs here fits k goes

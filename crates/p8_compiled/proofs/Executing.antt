@@ -7,7 +7,7 @@ use Rattle.p8_access.specs.Courses.{Course, Finish}
 use Rattle.p8_tree.specs.declared.places.Place.{Place}
 use Rattle.p8_tree.specs.Heights.{height}
 use Rattle.p8_tree.specs.Proper.{IfThere, IsProperExpression, IsDone, IsProperTest, AreProperTests, IsProperCourse, IsProperStatement, AreProperStatements, AreProperArms, AreProperChoices, IsProperOtherwise}
-use Rattle.p8_tree.specs.Expressions.{Tree, node, Number, Str, Here, Var, Call, Unary, Binary, Assign, Change, Address, ObjectAddress, ObjConst, Built, Look, Variable, Named, Part, Memory, Register, no_index, index, Item, single, range, Items, no_items, ◌▸◌}
+use Rattle.p8_tree.specs.Expressions.{Tree, node, Number, Str, Strings, Here, Var, Call, Unary, Binary, Assign, Change, Address, ObjectAddress, ObjConst, Built, Look, Variable, Named, Part, Memory, Register, no_index, index, Item, single, range, Items, no_items, ◌▸◌}
 use Rattle.p8_tree.specs.Statements.{Course as Loop, Forever, Count, Before, After, From, Statement, statement, Action, Do, If, Case, Repeat, Next, Quit, Return, Abort, arm, Otherwise, nothing_else, otherwise, Statements, no_statements, ◌▹◌, Arms, no_arms, ◌⊳◌}
 use Rattle.p8_bcog.specs.declared.marks.Mark.{Mark}
 use Rattle.p8_bcog.specs.declared.state.State.{State}
@@ -80,6 +80,7 @@ module _ (w : Working) where
   depth-positive : (e : Tree) → 1 ≤ depth e
   depth-positive (node place (Number n)) = omega arith
   depth-positive (node place (Str text)) = omega arith
+  depth-positive (node place (Strings es)) = omega arith
   depth-positive (node place Here) = omega arith
   depth-positive (node place (Var v)) = omega arith
   depth-positive (node place (Call stops object i method inside arguments)) = omega arith
@@ -203,6 +204,7 @@ module _ (w : Working) where
   act-meets (node place (Var (Register register x inside))) p q h low b xs here fits k m = absurd h
   act-meets (node place (Number n)) p q h low b xs here fits k m = absurd h
   act-meets (node place (Str text)) p q h low b xs here fits k m = absurd h
+  act-meets (node place (Strings es)) p q h low b xs here fits k m = absurd h
   act-meets (node place Here) p q h low b xs here fits k m = absurd h
   act-meets (node place (Unary operator e)) p q h low b xs here fits k m = absurd h
   act-meets (node place (Binary operator e d)) p q h low b xs here fits k m = absurd h

@@ -6,10 +6,10 @@ use Rattle.std.proofs.lemmas.Bool.Decides.{nat_tests}
 use Rattle.std.proofs.lemmas.List.{length-drop, length-take, drop-drop}
 use Rattle.std.proofs.Math.Seq.{drop-append_seam}
 use Rattle.p8_tree.specs.declared.places.Place.{Place}
-use Rattle.p8_instr.specs.declared.op.Op.{Op}
-use Rattle.p8_instr.specs.Reading.{op_in, op_at}
-use Rattle.p8_instr.specs.Spelling.{spelled, IsOp, IsOffset}
-use Rattle.p8_instr.proofs.ReadBack.{read-back}
+use Rattle.p8_bytecode.specs.declared.op.Op.{Op}
+use Rattle.p8_bytecode.specs.Reading.{op_in, op_at}
+use Rattle.p8_bytecode.specs.Spelling.{spelled, IsOp, IsOffset}
+use Rattle.p8_bytecode.proofs.ReadBack.{read-back}
 use Rattle.p8_bcog.specs.Code.{code_of, code_end, fetched}
 use Rattle.p8_gen.specs.Pieces.{Written, offset, reach, is_near, told}
 use Rattle.p8_gen.proofs.Sound.{near_offset}

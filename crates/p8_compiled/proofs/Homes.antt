@@ -10,9 +10,9 @@ use Rattle.p8_kinds.specs.declared.name_kinds.NameKind.{NameKind}
 use Rattle.p8_kinds.specs.declared.name_kinds.NameKind.TheVariants.{Const, Global, Local, Label, Method, Object}
 use Rattle.p8_kinds.specs.declared.uses.Use.TheVariants as used
 use Rattle.p8_kinds.specs.Uses.{wrong}
-use Rattle.p8_instr.specs.declared.op.Op.{Op}
-use Rattle.p8_instr.specs.Reading.{bare}
-use Rattle.p8_instr.specs.Table.{rows}
+use Rattle.p8_bytecode.specs.declared.op.Op.{Op}
+use Rattle.p8_bytecode.specs.Reading.{bare}
+use Rattle.p8_bytecode.specs.Table.{rows}
 use Rattle.p8_bcog.specs.Variables.{one_pin, some_pins, whole_register, all_pins, acts_on_pins}
 use Rattle.p8_bcog.specs.Bytecodes.{row, return_row}
 use Rattle.p8_bcog.specs.declared.state.State.{State}

@@ -4,12 +4,12 @@ use Rattle.std.proofs.Common.{◌≡◌, refl, sym, ap, ◌∙◌, subst, arith,
 use Rattle.p8_tree.specs.declared.places.Place.{Place}
 use Rattle.p8_tree.specs.Expressions.{Variable, Named, no_index}
 use Rattle.p8_access.specs.Courses.{Course}
-use Rattle.p8_instr.specs.declared.op.Op.{Op}
-use Rattle.p8_instr.specs.declared.operands.Operands.{Operands}
-use Rattle.p8_instr.specs.declared.operands.Operands.TheVariants.{Register, ShortVariable, Variable as VariableBytes}
-use Rattle.p8_instr.specs.Table.{operands_of, is_effect, is_step}
-use Rattle.p8_instr.specs.Reading.{changes_register, changes_variable, has_base}
-use Rattle.p8_instr.specs.Spelling.{spelled, offset_bytes, effect_bytes, operand_bytes, place_bytes, has_long_place, IsStep, IsOp, IsOffset}
+use Rattle.p8_bytecode.specs.declared.op.Op.{Op}
+use Rattle.p8_bytecode.specs.declared.operands.Operands.{Operands}
+use Rattle.p8_bytecode.specs.declared.operands.Operands.TheVariants.{Register, ShortVariable, Variable as VariableBytes}
+use Rattle.p8_bytecode.specs.Table.{operands_of, is_effect, is_step}
+use Rattle.p8_bytecode.specs.Reading.{changes_register, changes_variable, has_base}
+use Rattle.p8_bytecode.specs.Spelling.{spelled, offset_bytes, effect_bytes, operand_bytes, place_bytes, has_long_place, IsStep, IsOp, IsOffset}
 use Rattle.p8_bcog.specs.declared.state.State.{State}
 use Rattle.p8_bcog.specs.declared.place.Place as place
 use Rattle.p8_bcog.specs.declared.step.Wanted.TheVariants as wanted_case

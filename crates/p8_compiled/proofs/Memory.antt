@@ -4,12 +4,12 @@ use Rattle.p8_access.specs.declared.kinds.Width.TheVariants.{Long}
 use Rattle.p8_access.specs.Proper.{bytes_in}
 use Rattle.p8_tree.specs.Proper.{is_size}
 use Rattle.p8_access.specs.Courses.{Course, Finish}
-use Rattle.p8_instr.specs.declared.op.Op.{Op}
-use Rattle.p8_instr.specs.declared.operands.Operands.{Operands}
-use Rattle.p8_instr.specs.declared.operands.Operands.TheVariants.{ShortVariable, Variable}
-use Rattle.p8_instr.specs.Table.{rows, operands_of}
-use Rattle.p8_instr.specs.Reading.{bare, changes_variable, has_base}
-use Rattle.p8_instr.specs.Spelling.{FitsOperands, IsChange, IsPlace, IsOp}
+use Rattle.p8_bytecode.specs.declared.op.Op.{Op}
+use Rattle.p8_bytecode.specs.declared.operands.Operands.{Operands}
+use Rattle.p8_bytecode.specs.declared.operands.Operands.TheVariants.{ShortVariable, Variable}
+use Rattle.p8_bytecode.specs.Table.{rows, operands_of}
+use Rattle.p8_bytecode.specs.Reading.{bare, changes_variable, has_base}
+use Rattle.p8_bytecode.specs.Spelling.{FitsOperands, IsChange, IsPlace, IsOp}
 use Rattle.p8_bcog.specs.declared.state.State.{State}
 use Rattle.p8_bcog.specs.declared.place.Place as place
 use Rattle.p8_bcog.specs.declared.place.Place.TheVariants.{Memory, Pins}

@@ -3,13 +3,13 @@ use Rattle.std.proofs.Common.{◌≡◌, ℕ, zero, suc, subst, ap, sym, ◌∙�
 use Rattle.std.proofs.lemmas.Bool.{cases_lt}
 use Rattle.std.proofs.lemmas.Option.{same_Some, none-some, slice_get_within}
 use Rattle.p8_tree.specs.declared.places.Place.{Place}
-use Rattle.p8_tree.specs.Expressions.{Tree, node, Form, Number, Str, Here, Var, Call, Unary, Binary, Assign, Change, Address, ObjectAddress, ObjConst, Built, Look, Variable, Named, Part, Memory, Register, Index, no_index, index, whole, bits, single, range, Trees, no_trees, ◌▷◌, Items, no_items, ◌▸◌}
+use Rattle.p8_tree.specs.Expressions.{Tree, node, Form, Number, Str, Strings, Here, Var, Call, Unary, Binary, Assign, Change, Address, ObjectAddress, ObjConst, Built, Look, Variable, Named, Part, Memory, Register, Index, no_index, index, whole, bits, single, range, Trees, no_trees, ◌▷◌, Items, no_items, ◌▸◌}
 use Rattle.p8_tree.specs.Statements.{Forever, Count, Before, After, From, Statement, statement, Action, Do, If, Case, Repeat, Next, Quit, Return, Abort, arm, Otherwise, nothing_else, otherwise, Statements, no_statements, ◌▹◌, Arms, no_arms, ◌⊳◌}
-use Rattle.p8_instr.specs.declared.op.Op.{Op}
-use Rattle.p8_instr.specs.declared.operands.Operands.TheVariants.{ShortVariable, Variable as VariableBytes}
-use Rattle.p8_instr.specs.Reading.{bare, offset_size, has_base, changes_variable}
-use Rattle.p8_instr.specs.Spelling.{spelled, operand_bytes, effect_bytes, offset_bytes, place_bytes, has_long_place}
-use Rattle.p8_instr.specs.Table.{rows, operands_of, is_step}
+use Rattle.p8_bytecode.specs.declared.op.Op.{Op}
+use Rattle.p8_bytecode.specs.declared.operands.Operands.TheVariants.{ShortVariable, Variable as VariableBytes}
+use Rattle.p8_bytecode.specs.Reading.{bare, offset_size, has_base, changes_variable}
+use Rattle.p8_bytecode.specs.Spelling.{spelled, operand_bytes, effect_bytes, offset_bytes, place_bytes, has_long_place}
+use Rattle.p8_bytecode.specs.Table.{rows, operands_of, is_step}
 use Rattle.p8_kinds.specs.declared.name_kinds.NameKind.{NameKind}
 use Rattle.p8_kinds.specs.declared.name_kinds.NameKind.TheVariants as kinds
 use Rattle.p8_words.specs.Operators.{or_zero}
@@ -349,6 +349,7 @@ module _ (f g : ℕ → Bool) where
       form-moves : (place : Place) (form : Form) → Moves (value_of_form (widened n f) place form) (value_of_form (widened n g) place form)
       form-moves place (Number v) = number-moves v
       form-moves place (Str letters) = texts place _
+      form-moves place (Strings es) = texts place _
       form-moves place Here = nothings
       form-moves place (Var (Named name no_index q)) = name-moves n name (n.kind name)
       form-moves place (Var (Named name (index e) q)) = both (value-moves e) (same-one _)

@@ -7,7 +7,7 @@ use Rattle.p8_access.specs.declared.kinds.Origin.TheVariants.{Spin}
 use Rattle.p8_access.specs.declared.kinds.Reason.TheVariants as Why
 use Rattle.p8_access.specs.declared.kinds.Access.TheVariants as asked
 use Rattle.p8_tree.specs.Names.{result_word}
-use Rattle.p8_tree.specs.Expressions.{Tree, node, Number, Str, Here, Var, Call, Unary, Binary, Assign, Change, Address, ObjectAddress, ObjConst, Built, Look, Variable, Named, Part, Memory, Register, Index, no_index, index, Bits, whole, bits, Item, single, range, Trees, no_trees, ◌▷◌, Items, no_items, ◌▸◌}
+use Rattle.p8_tree.specs.Expressions.{Tree, node, Number, Str, Strings, Here, Var, Call, Unary, Binary, Assign, Change, Address, ObjectAddress, ObjConst, Built, Look, Variable, Named, Part, Memory, Register, Index, no_index, index, Bits, whole, bits, Item, single, range, Trees, no_trees, ◌▷◌, Items, no_items, ◌▸◌}
 use Rattle.p8_tree.specs.Lists.{count_of_trees, tree_list}
 use Rattle.p8_tree.specs.declared.places.Place.{Place}
 use Rattle.p8_tree.specs.Sources.{MethodTree}
@@ -208,6 +208,7 @@ module _ (program : Program) (addresses : Addresses) where
       pub evaluates-holds : (e : Tree) (p q : ℕ) → standing.ValueAt t e p q → {g : ℕ → Rest} → L g → H (expressions.evaluates callee s abort e g)
       evaluates-holds (node place (Number n)) p q h g = g n
       evaluates-holds (node place (Str text)) p q h g = g _
+      evaluates-holds (node place (Strings es)) p q h g = g _
       evaluates-holds (node place Here) p q h g = absurd h
       evaluates-holds (node place (Var v)) p q h g = evaluates_variable-holds v p q h g
       evaluates-holds (node place (Call trap None i method at arguments)) p q h g =
@@ -286,6 +287,7 @@ module _ (program : Program) (addresses : Addresses) where
       begins-holds used one two first second id (node place (Var (Register register z at))) p q h g = pasm-holds used one two first second id p q h g
       begins-holds used one two first second id (node place (Number n)) p q h g = pasm-holds used one two first second id p q h g
       begins-holds used one two first second id (node place (Str text)) p q h g = pasm-holds used one two first second id p q h g
+      begins-holds used one two first second id (node place (Strings es)) p q h g = pasm-holds used one two first second id p q h g
       begins-holds used one two first second id (node place Here) p q h g = pasm-holds used one two first second id p q h g
       begins-holds used one two first second id (node place (Unary operator e)) p q h g = pasm-holds used one two first second id p q h g
       begins-holds used one two first second id (node place (Binary operator e f)) p q h g = pasm-holds used one two first second id p q h g
@@ -327,6 +329,7 @@ module _ (program : Program) (addresses : Addresses) where
     acts-holds (node place (Var (Register register x at))) p q h g = absurd h
     acts-holds (node place (Number n)) p q h g = absurd h
     acts-holds (node place (Str text)) p q h g = absurd h
+    acts-holds (node place (Strings es)) p q h g = absurd h
     acts-holds (node place Here) p q h g = absurd h
     acts-holds (node place (Unary operator e)) p q h g = absurd h
     acts-holds (node place (Binary operator e f)) p q h g = absurd h

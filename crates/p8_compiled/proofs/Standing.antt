@@ -4,12 +4,12 @@ use Rattle.std.specs.Prelude.{Contains}
 use Rattle.std.proofs.Common.{◌≡◌, refl, sym, ap, ◌∙◌, subst, arith, ℕ, zero, suc, ◌+◌, ◌≤◌, length, Option, Some, ◌%◌, ◌^◌, Bool, true, false, if◌then◌else◌, List, [], ◌∷◌, ◌++◌, append-nil}
 use Rattle.p8_tree.specs.declared.places.Place.{Place}
 use Rattle.p8_access.specs.Courses.{Course}
-use Rattle.p8_instr.specs.declared.op.Op.{Op}
-use Rattle.p8_instr.specs.declared.operands.Operands.{Operands}
-use Rattle.p8_instr.specs.declared.operands.Operands.TheVariants.{Offset}
-use Rattle.p8_instr.specs.Table.{operands_of}
-use Rattle.p8_instr.specs.Reading.{bare}
-use Rattle.p8_instr.specs.Spelling.{spelled, operand_bytes, has_long_place, FitsOperands, IsOp}
+use Rattle.p8_bytecode.specs.declared.op.Op.{Op}
+use Rattle.p8_bytecode.specs.declared.operands.Operands.{Operands}
+use Rattle.p8_bytecode.specs.declared.operands.Operands.TheVariants.{Offset}
+use Rattle.p8_bytecode.specs.Table.{operands_of}
+use Rattle.p8_bytecode.specs.Reading.{bare}
+use Rattle.p8_bytecode.specs.Spelling.{spelled, operand_bytes, has_long_place, FitsOperands, IsOp}
 use Rattle.p8_bcog.specs.declared.state.State.{State}
 use Rattle.p8_bcog.specs.Bytecodes.{row}
 use Rattle.p8_gen.specs.Pieces.{Written, Piece, nothing, one, ◌⨾◌, from_start, up_to_end, up_to_jumps, of_statement, text, offset, told, jump, jump_size, end_of_jump}

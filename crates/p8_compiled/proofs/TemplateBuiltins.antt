@@ -8,10 +8,10 @@ use Rattle.p8_access.specs.Proper.{bytes_in}
 use Rattle.p8_access.specs.Courses.{Course, Finish}
 use Rattle.p8_tree.specs.declared.places.Place.{Place}
 use Rattle.p8_tree.specs.Proper as proper
-use Rattle.p8_instr.specs.declared.op.Op.{Op}
-use Rattle.p8_instr.specs.Table.{rows}
-use Rattle.p8_instr.specs.Reading.{bare}
-use Rattle.p8_instr.specs.Spelling.{IsOp}
+use Rattle.p8_bytecode.specs.declared.op.Op.{Op}
+use Rattle.p8_bytecode.specs.Table.{rows}
+use Rattle.p8_bytecode.specs.Reading.{bare}
+use Rattle.p8_bytecode.specs.Spelling.{IsOp}
 use Rattle.p8_bcog.specs.declared.state.State.{State}
 use Rattle.p8_bcog.specs.declared.place.Place as place
 use Rattle.p8_bcog.specs.declared.place.Place.TheVariants as place_case

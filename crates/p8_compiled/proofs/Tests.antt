@@ -3,10 +3,10 @@ use Rattle.std.proofs.Common.{◌≡◌, refl, sym, ap, ◌∙◌, arith, ℕ, �
 use Rattle.p8_tree.specs.declared.places.Place.{Place}
 use Rattle.p8_tree.specs.Proper as proper
 use Rattle.p8_access.specs.Courses.{Finish}
-use Rattle.p8_instr.specs.declared.operands.Operands.{Operands}
-use Rattle.p8_instr.specs.declared.operands.Operands.TheVariants.{Nothing}
-use Rattle.p8_instr.specs.Table.{rows, operands_of}
-use Rattle.p8_instr.specs.Reading.{bare}
+use Rattle.p8_bytecode.specs.declared.operands.Operands.{Operands}
+use Rattle.p8_bytecode.specs.declared.operands.Operands.TheVariants.{Nothing}
+use Rattle.p8_bytecode.specs.Table.{rows, operands_of}
+use Rattle.p8_bytecode.specs.Reading.{bare}
 use Rattle.p8_words.specs.Operators.{is_unary}
 use Rattle.p8_bcog.specs.declared.state.State.{State}
 use Rattle.p8_bcog.specs.Operands.{operand, pushed, replaced, jumped, is_between, sum_of, distance, difference}

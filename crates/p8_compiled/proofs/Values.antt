@@ -4,7 +4,7 @@ use Rattle.std.specs.Str.{bytes_eq}
 use Rattle.std.proofs.lemmas.Slice.Eq.{bytes_eq-Decides}
 use Rattle.p8_tree.specs.declared.places.Place.{Place}
 use Rattle.p8_tree.specs.Names.{result_word}
-use Rattle.p8_tree.specs.Expressions.{Tree, node, Form, Number, Str, Here, Var, Call, Unary, Binary, Assign, Change, Address, ObjectAddress, ObjConst, Built, Look, Variable, Named, Part, Memory, Register, Index, no_index, index, Bits, whole, bits, single, range, Trees, no_trees, ◌▷◌, Items, no_items, ◌▸◌}
+use Rattle.p8_tree.specs.Expressions.{Tree, node, Form, Number, Str, Strings, Here, Var, Call, Unary, Binary, Assign, Change, Address, ObjectAddress, ObjConst, Built, Look, Variable, Named, Part, Memory, Register, Index, no_index, index, Bits, whole, bits, single, range, Trees, no_trees, ◌▷◌, Items, no_items, ◌▸◌}
 use Rattle.p8_tree.specs.Lists.{count_of_trees}
 use Rattle.p8_tree.specs.Proper as proper
 use Rattle.p8_tree.specs.Proper.{IsProperTree, IsProperForm, IsProperVariable, IsProperIndex, AreProperBits, IsProperItem, AreProperTrees, AreProperItems, IfThere}
@@ -359,6 +359,8 @@ module _ (n : Names) (t : Compiled) (base : ℕ) (a : Agrees n t) where
     form-stand place (Number v) is clean = number-stand t.memory t.cog base t.table t.hand v is
     form-stand place (Str letters) is clean =
         subst (λ (offset : ℕ). S (value_of_form n place (Str letters)) (λ p q. At t p (rows_of.gives_text offset) q)) (a.texts place) (text-of-stand t base place (n.text place) (a.near_texts place))
+    form-stand place (Strings es) is clean =
+        subst (λ (offset : ℕ). S (value_of_form n place (Strings es)) (λ p q. At t p (rows_of.gives_text offset) q)) (a.texts place) (text-of-stand t base place (n.text place) (a.near_texts place))
     form-stand place Here is clean = absurd (let never : false ≡ true = is in cc)
     form-stand place (Var v) is clean =
         read-by place v is (own-none place (Var v) clean) (names-stand v is (λ f b. clean f (inr b)))

@@ -2,7 +2,7 @@
 use Rattle.std.specs.Prelude.{Contains, ℕ, ◌+◌, ◌-◌, ◌≡◌, Bool, true, false, List, length, drop, Option, Some, None, if◌then◌else◌}
 use Rattle.p8_access.specs.Courses.{Course, Finish}
 use Rattle.p8_tree.specs.declared.places.Place.{Place}
-use Rattle.p8_instr.specs.declared.op.Op.{Op}
+use Rattle.p8_bytecode.specs.declared.op.Op.{Op}
 use Rattle.p8_bcog.specs.declared.state.State.{State}
 use Rattle.p8_bcog.specs.declared.place.Place as place
 use Rattle.p8_bcog.specs.declared.place.Place.TheVariants as place_case

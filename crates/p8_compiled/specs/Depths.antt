@@ -1,6 +1,6 @@
 -- How many longs an expression or a statement holds on the operand stack at most, by which names are those of methods.
 use Rattle.std.specs.Prelude.{ℕ, ◌+◌, max, List, Bool, ◌==◌, if◌then◌else◌, false, Option, Some, None}
-use Rattle.p8_tree.specs.Expressions.{Tree, node, Number, Str, Here, Var, Call, Unary, Binary, Assign, Change, Address, ObjectAddress, ObjConst, Built, Look, Variable, Named, Part, Memory, Register, Index, no_index, index, Bits, whole, bits, Item, single, range, Trees, no_trees, ◌▷◌, Items, no_items, ◌▸◌}
+use Rattle.p8_tree.specs.Expressions.{Tree, node, Number, Str, Strings, Here, Var, Call, Unary, Binary, Assign, Change, Address, ObjectAddress, ObjConst, Built, Look, Variable, Named, Part, Memory, Register, Index, no_index, index, Bits, whole, bits, Item, single, range, Trees, no_trees, ◌▷◌, Items, no_items, ◌▸◌}
 use Rattle.p8_tree.specs.Lists.{count_of_trees}
 use Rattle.p8_tree.specs.Statements.{Course, Forever, Count, Before, After, From, Statement, statement, Do, If, Case, Repeat, Next, Quit, Return, Abort, arm, Otherwise, nothing_else, otherwise, Statements, no_statements, ◌▹◌, Arms, no_arms, ◌⊳◌}
 
@@ -8,6 +8,7 @@ abbrev mutual
   pub depth : (is_method : List ℕ → Bool) → Tree → ℕ
   depth m (node place (Number n)) = 1
   depth m (node place (Str text)) = 1
+  depth m (node place (Strings es)) = 1
   depth m (node place Here) = 1
   depth m (node place (Var v)) = max 1 (names_depth m v)
   depth m (node place (Call stops object i method at arguments)) = max 1 (max (trees_depth m arguments) (count_of_trees arguments + index_depth m i))

@@ -1,6 +1,6 @@
 -- How a choice of wide jumps moves the places of a method's code.
 use Rattle.std.specs.Prelude.{◌≡◌, ℕ, zero, suc, ◌+◌, Bool, List, length, slice_get, Some}
-use Rattle.p8_instr.specs.Reading.{offset_size}
+use Rattle.p8_bytecode.specs.Reading.{offset_size}
 
 -- how many bytes the offsets of the first jumps have
 abbrev pub spent : (wide : ℕ → Bool) → (jumps : ℕ) → ℕ

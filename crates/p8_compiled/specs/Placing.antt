@@ -1,8 +1,8 @@
 -- Where a memory has the bytes of a method's code.
 use Rattle.std.specs.Prelude.{Contains, ◌≡◌, ℕ, ◌+◌, ◌≤◌, List, [], ◌++◌, length, drop, All}
 use Rattle.p8_tree.specs.declared.places.Place.{Place}
-use Rattle.p8_instr.specs.declared.op.Op.{Op}
-use Rattle.p8_instr.specs.Spelling.{IsOp}
+use Rattle.p8_bytecode.specs.declared.op.Op.{Op}
+use Rattle.p8_bytecode.specs.Spelling.{IsOp}
 use Rattle.p8_bcog.specs.Code.{code_of}
 use Rattle.p8_gen.specs.Pieces.{Written}
 use Rattle.p8_gen.specs.Methods.{bytes_of}

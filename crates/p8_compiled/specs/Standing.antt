@@ -9,7 +9,7 @@ use Rattle.p8_access.specs.declared.kinds.Access.TheVariants as access_case
 use Rattle.p8_access.specs.Courses.{Course, Finish, Stop}
 use Rattle.p8_tree.specs.declared.places.Place.{Place}
 use Rattle.p8_tree.specs.Names.{result_word}
-use Rattle.p8_tree.specs.Expressions.{Tree, node, Number, Str, Here, Var, Call, Unary, Binary, Assign, Change, Address, ObjectAddress, ObjConst, Built, Look, Variable, Named, Part, Memory, Register, Index, no_index, index, Bits, whole, bits, Item, single, range, Trees, no_trees, ◌▷◌, Items, no_items, ◌▸◌}
+use Rattle.p8_tree.specs.Expressions.{Tree, node, Number, Str, Strings, Here, Var, Call, Unary, Binary, Assign, Change, Address, ObjectAddress, ObjConst, Built, Look, Variable, Named, Part, Memory, Register, Index, no_index, index, Bits, whole, bits, Item, single, range, Trees, no_trees, ◌▷◌, Items, no_items, ◌▸◌}
 use Rattle.p8_words.specs.Operators.{unary_value, binary_value, or_zero}
 use Rattle.p8_kinds.specs.Values as constants
 use Rattle.p8_kinds.specs.declared.name_kinds.NameKind.{NameKind}
@@ -388,6 +388,7 @@ abbrev mutual
   pub ValueAt : Compiled → Tree → (p q : ℕ) → Type 0
   ValueAt t (node place (Number n)) p q = At t p (gives n) q
   ValueAt t (node place (Str text)) p q = At t p (gives_text (t.addresses.text t.number place)) q
+  ValueAt t (node place (Strings es)) p q = At t p (gives_text (t.addresses.text t.number place)) q
   ValueAt t (node place Here) p q = ⊥
   ValueAt t (node place (Var v)) p q = VariableAt t v p q
   ValueAt t (node place (Call stops None i name inside arguments)) p q =

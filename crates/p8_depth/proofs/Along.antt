@@ -6,12 +6,12 @@ use Rattle.std.proofs.lemmas.Grind.{flat_map-append}
 use Rattle.std.proofs.lemmas.List.Elements.{All-nil, All-cons, All-head, All-push, All-drop}
 use Rattle.std.proofs.Math.Seq.{drop-append_seam}
 use Rattle.p8_tree.specs.declared.places.Place.{Place}
-use Rattle.p8_instr.specs.declared.op.Op.{Op}
-use Rattle.p8_instr.specs.declared.operands.Operands.TheVariants.{Offset}
-use Rattle.p8_instr.specs.Reading.{bare, op_in, op_at}
-use Rattle.p8_instr.specs.Spelling.{spelled, operand_bytes, has_long_place, IsOp}
-use Rattle.p8_instr.specs.Table.{operands_of}
-use Rattle.p8_instr.proofs.ReadBack.{read-back}
+use Rattle.p8_bytecode.specs.declared.op.Op.{Op}
+use Rattle.p8_bytecode.specs.declared.operands.Operands.TheVariants.{Offset}
+use Rattle.p8_bytecode.specs.Reading.{bare, op_in, op_at}
+use Rattle.p8_bytecode.specs.Spelling.{spelled, operand_bytes, has_long_place, IsOp}
+use Rattle.p8_bytecode.specs.Table.{operands_of}
+use Rattle.p8_bytecode.proofs.ReadBack.{read-back}
 use Rattle.p8_gen.specs.Pieces.{Written, Piece, nothing, one, ◌⨾◌, up_to_end, text, offset, jump, jump_size, end_of_jump}
 use Rattle.p8_gen.proofs.Widths.{Alike}
 use Rattle.p8_depth.specs.Stack.{Column, Opens, Calls, Works, Jumps, Goes, column, Mark, Stack, holds, onward, below_all, IsEnough}

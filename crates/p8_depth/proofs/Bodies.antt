@@ -7,8 +7,8 @@ use Rattle.p8_tree.specs.Expressions.{Tree, Items, no_items, ◌▸◌, single, 
 use Rattle.p8_tree.specs.Statements.{statement, Action, Statements, ◌▹◌, Arms, no_arms, ◌⊳◌, arm}
 use Rattle.p8_tree.specs.Proper.{IfThere, IsProperExpression, IsCondition}
 use Rattle.p8_tree.specs.declared.faults.Fault.{Fault}
-use Rattle.p8_instr.specs.Reading.{bare}
-use Rattle.p8_instr.specs.Table.{rows}
+use Rattle.p8_bytecode.specs.Reading.{bare}
+use Rattle.p8_bytecode.specs.Table.{rows}
 use Rattle.p8_kinds.specs.Environments.{Environment, kind_in}
 use Rattle.p8_kinds.specs.Misuses.{MisuseInOption, MisuseInItems}
 use Rattle.p8_gen.specs.Names.{Names}

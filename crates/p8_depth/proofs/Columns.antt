@@ -6,8 +6,8 @@ use Rattle.std.proofs.lemmas.Bool.Decides.{nat_tests}
 use Rattle.p8_tree.specs.Proper as proper
 use Rattle.p8_tree.specs.Proper.{is_binary, is_change, is_operator_alone}
 use Rattle.p8_words.specs.Operators.{is_unary}
-use Rattle.p8_instr.specs.declared.op.Op.{Op}
-use Rattle.p8_instr.specs.Reading.{bare}
+use Rattle.p8_bytecode.specs.declared.op.Op.{Op}
+use Rattle.p8_bytecode.specs.Reading.{bare}
 use Rattle.p8_gen.specs.Variables.{Base, Pushed, OfObject, OfVariables, OfFrame, Home, Operation, Push, Pop, Using, Reference, action_of, effect_of, size_bits, base_bits, memory_op, short_bits, is_short, short_or_long, plain_op, operation_bits, effect_by, effect_for, leaving, by_size}
 use Rattle.p8_gen.proofs.ByteTables.{both_true, modus, equal, one_of}
 use Rattle.p8_depth.proofs.Along.{left_by}

@@ -8,7 +8,7 @@ use Rattle.p8_tree.specs.Statements.{Forever, Count, After, From, statement, Act
 use Rattle.p8_kinds.specs.declared.name_kinds.NameKind.{NameKind}
 use Rattle.p8_kinds.specs.declared.name_kinds.NameKind.TheVariants as kinds
 use Rattle.p8_kinds.specs.Meanings.{outside_operands}
-use Rattle.p8_instr.specs.Table.{rows}
+use Rattle.p8_bytecode.specs.Table.{rows}
 use Rattle.p8_gen.specs.Names.{Names, all_wide}
 use Rattle.p8_gen.specs.Methods.{method_code, bytes_of}
 use Rattle.p8_gen.specs.Depths.{held_in}

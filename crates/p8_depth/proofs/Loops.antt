@@ -7,12 +7,12 @@ use Rattle.p8_tree.specs.Statements.{Course, Forever, Count, Before, After, From
 use Rattle.p8_tree.specs.Proper.{IfThere, IsProperExpression, IsProperCourse}
 use Rattle.p8_tree.specs.declared.faults.Fault.{Fault}
 use Rattle.std.proofs.lemmas.Bool.Decides.{nat_tests}
-use Rattle.p8_instr.specs.declared.op.Op.{Op}
-use Rattle.p8_instr.specs.declared.operands.Operands.{Operands}
-use Rattle.p8_instr.specs.declared.operands.Operands.TheVariants.{Register, ShortVariable, Variable}
-use Rattle.p8_instr.specs.Reading.{bare, changes_register, changes_variable, has_base}
-use Rattle.p8_instr.specs.Spelling.{spelled, offset_bytes, effect_bytes, operand_bytes, place_bytes, has_long_place}
-use Rattle.p8_instr.specs.Table.{operands_of, is_step}
+use Rattle.p8_bytecode.specs.declared.op.Op.{Op}
+use Rattle.p8_bytecode.specs.declared.operands.Operands.{Operands}
+use Rattle.p8_bytecode.specs.declared.operands.Operands.TheVariants.{Register, ShortVariable, Variable}
+use Rattle.p8_bytecode.specs.Reading.{bare, changes_register, changes_variable, has_base}
+use Rattle.p8_bytecode.specs.Spelling.{spelled, offset_bytes, effect_bytes, operand_bytes, place_bytes, has_long_place}
+use Rattle.p8_bytecode.specs.Table.{operands_of, is_step}
 use Rattle.p8_kinds.specs.Environments.{Environment}
 use Rattle.p8_kinds.specs.Misuses.{MisuseInOption, MisuseInCourse}
 use Rattle.p8_gen.specs.Names.{Names}

@@ -5,8 +5,8 @@ use Rattle.std.proofs.lemmas.List.Elements.{All-append, All-nil, All-push, All-c
 use Rattle.p8_tree.specs.Statements.{statement, Action, Do, If, Case, Repeat, Next, Quit, Return, Abort, Otherwise, nothing_else, otherwise, Statements, no_statements, ◌▹◌, Arms, no_arms, ◌⊳◌, arm}
 use Rattle.p8_tree.specs.Proper.{IsProperAction, AreProperArms, AreProperChoices, IsProperOtherwise, AreProperStatements}
 use Rattle.p8_tree.specs.declared.faults.Fault.{Fault}
-use Rattle.p8_instr.specs.Reading.{bare}
-use Rattle.p8_instr.specs.Spelling.{IsOp}
+use Rattle.p8_bytecode.specs.Reading.{bare}
+use Rattle.p8_bytecode.specs.Spelling.{IsOp}
 use Rattle.p8_kinds.specs.Environments.{Environment, kind_in}
 use Rattle.p8_kinds.specs.Misuses.{MisuseInAction, MisuseInStatements, MisuseInArms, MisuseInOtherwise}
 use Rattle.p8_gen.specs.Names.{Names}

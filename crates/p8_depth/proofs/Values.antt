@@ -2,7 +2,7 @@
 use Rattle.std.proofs.Common.{◌≡◌, refl, sym, ap, ◌∙◌, subst, arith, ℕ, ◌+◌, ◌-◌, ◌^◌, ◌≤◌, max, ◌==◌, ◌&&◌, ◌||◌, Bool, true, false, not, if◌then◌else◌, inl, inr, nat_le, nat_lt, List, [], ◌∷◌, length-append, Option, Some, None}
 use Rattle.std.specs.Prelude.{IsTrue}
 use Rattle.p8_tree.specs.declared.places.Place.{Place}
-use Rattle.p8_tree.specs.Expressions.{Tree, node, Form, Number, Str, Here, Var, Call, Unary, Binary, Assign, Change, Address, ObjectAddress, ObjConst, Built, Look, Variable, Named, Part, Memory, Register, Index, no_index, index, whole, bits, single, range, Trees, no_trees, ◌▷◌, Items, no_items, ◌▸◌}
+use Rattle.p8_tree.specs.Expressions.{Tree, node, Form, Number, Str, Strings, Here, Var, Call, Unary, Binary, Assign, Change, Address, ObjectAddress, ObjConst, Built, Look, Variable, Named, Part, Memory, Register, Index, no_index, index, whole, bits, single, range, Trees, no_trees, ◌▷◌, Items, no_items, ◌▸◌}
 use Rattle.p8_tree.specs.Lists.{tree_list, count_of_trees}
 use Rattle.p8_tree.specs.Proper as proper
 use Rattle.p8_tree.specs.Proper.{IfThere, is_binary, is_change, is_operator_alone, gives_value, gives_no_value, arguments_fit, arguments_fit_alone, IsProperTree, IsProperForm, IsProperVariable, IsProperIndex, AreProperTrees, AreProperItems, AreProperBits, IsDoneForm, IsDone}
@@ -10,9 +10,9 @@ use Rattle.p8_tree.specs.declared.faults.Fault.{Fault}
 use Rattle.p8_tree.specs.Faults.{fault}
 use Rattle.p8_tree.specs.declared.refusal.Refusal.TheVariants.{Unknown, WrongKind, WrongArity}
 use Rattle.p8_words.specs.Operators.{or_zero}
-use Rattle.p8_instr.specs.declared.op.Op.{Op}
-use Rattle.p8_instr.specs.Reading.{bare}
-use Rattle.p8_instr.specs.Table.{rows}
+use Rattle.p8_bytecode.specs.declared.op.Op.{Op}
+use Rattle.p8_bytecode.specs.Reading.{bare}
+use Rattle.p8_bytecode.specs.Table.{rows}
 use Rattle.p8_kinds.specs.Values as constants
 use Rattle.p8_kinds.specs.Uses.{argument_count}
 use Rattle.p8_kinds.specs.declared.name_kinds.NameKind.{NameKind}
@@ -48,6 +48,7 @@ module _ (n : Names) where
   pub some-held : (e : Tree) → 1 ≤ held n e
   some-held (node p (Number v)) = omega arith
   some-held (node p (Str v)) = omega arith
+  some-held (node p (Strings es)) = omega arith
   some-held (node p Here) = omega arith
   some-held (node p (Var v)) = omega arith
   some-held (node p (Call trap object i method q args)) = omega arith
@@ -432,6 +433,7 @@ module _ (m : Whole) (n h : Names) (env : Environment) (same : (name : List ℕ)
     form-flows : (place : Place) (form : Form) → IsProperForm false form → ((f : Fault) → ¬ BrokenIn (in_method env) (node place form) f) → V None (value_of_form n place form) 0 1 (held_by h form)
     form-flows place (Number v) is clean = number-flows m v
     form-flows place (Str letters) is clean = along.texts m place _ refl
+    form-flows place (Strings es) is clean = along.texts m place _ refl
     form-flows place Here is clean = absurd cc
     form-flows place (Var (Named name no_index q)) is clean = along.told-as m (name-flows name (n.kind name)) (omega arith)
     form-flows place (Var (Named name (index e) q)) is clean = along.told-as m (operate-flows (Named name (index e) q) Push 0 1 is (λ f x. clean f (inr x)) pushes) (omega arith)

@@ -1,8 +1,8 @@
 -- Paths along the bytes of a method's code, and the stack that they come with.
 use Rattle.std.specs.Prelude.{◌≡◌, ℕ, ◌+◌, ◌%◌, ◌^◌, ◌≤◌, nat_lt, if◌then◌else◌, List, [], Option, Some, None, Contains}
 use Rattle.p8_tree.specs.declared.places.Place.{Place}
-use Rattle.p8_instr.specs.declared.op.Op.{Op}
-use Rattle.p8_instr.specs.Reading.{op_at}
+use Rattle.p8_bytecode.specs.declared.op.Op.{Op}
+use Rattle.p8_bytecode.specs.Reading.{op_at}
 use Rattle.p8_depth.specs.Stack.{Stack, holds, column, onward, IsEnough}
 
 -- a jump counts from the byte behind its bytecode; an offset is a word in two's complement

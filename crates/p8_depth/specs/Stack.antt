@@ -2,8 +2,8 @@
 -- Source: the public Spin bytecode listing of the Propeller P8X32A.
 use Rattle.std.specs.Prelude.{ℕ, ◌+◌, ◌-◌, ◌/◌, ◌%◌, ◌≤◌, ◌==◌, nat_le, nat_lt, Bool, true, false, not, if◌then◌else◌, List, [], ◌∷◌}
 use Rattle.p8_words.specs.Operators.{is_unary}
-use Rattle.p8_instr.specs.declared.op.Op.{Op}
-use Rattle.p8_instr.specs.Table.{is_within}
+use Rattle.p8_bytecode.specs.declared.op.Op.{Op}
+use Rattle.p8_bytecode.specs.Table.{is_within}
 
 -- what a bytecode does with the stack
 pub data Column : Type 0 where

@@ -2,7 +2,7 @@
 ghost use Rattle.std.specs.Prelude.{ℕ, ◌^◌, ◌<◌, length, map, All, Contains};
 ghost use Rattle.p8_tree.specs.Statements.{Statements};
 ghost use Rattle.p8_tree.specs.Sources.{MethodTree};
-ghost use Rattle.p8_instr.specs.Spelling.{IsOp};
+ghost use Rattle.p8_bytecode.specs.Spelling.{IsOp};
 ghost use Rattle.p8_gen.specs.Names.{Names};
 ghost use Rattle.p8_gen.specs.Methods.{method_code};
 ghost use Rattle.p8_gen.specs.Uses.{line_of};

@@ -3,10 +3,10 @@ use Rattle.std.proofs.Common.{◌≡◌, ℕ, zero, suc, ◌+◌, ◌-◌, ◌<�
 use Rattle.std.specs.Prelude.{IsTrue}
 use Rattle.std.proofs.lemmas.Bool.{cases_eq}
 use Rattle.std.proofs.lemmas.Bool.Decides.{nat_tests}
-use Rattle.p8_instr.specs.declared.operands.Operands.{Operands}
-use Rattle.p8_instr.specs.declared.operands.Operands.TheVariants.{Nothing, Offset, OneByte, TwoBytes, ThreeBytes, SevenBits, Word, Triple, Long, Register, ShortVariable, Variable}
-use Rattle.p8_instr.specs.Table.{rows, operands_of, is_effect, is_step, is_within, is_register}
-use Rattle.p8_instr.specs.Reading.{changes_register}
+use Rattle.p8_bytecode.specs.declared.operands.Operands.{Operands}
+use Rattle.p8_bytecode.specs.declared.operands.Operands.TheVariants.{Nothing, Offset, OneByte, TwoBytes, ThreeBytes, SevenBits, Word, Triple, Long, Register, ShortVariable, Variable}
+use Rattle.p8_bytecode.specs.Table.{rows, operands_of, is_effect, is_step, is_within, is_register}
+use Rattle.p8_bytecode.specs.Reading.{changes_register}
 use Rattle.p8_tree.specs.Proper.{is_one_of, is_binary, is_unary, is_change, is_operator_alone}
 use Rattle.p8_gen.specs.Variables.{leaving, effect_by, effect_for, by_size}
 

@@ -7,8 +7,8 @@ use Rattle.p8_tree.specs.Expressions.{Tree, node, Number, Var, Binary, Assign, N
 use Rattle.p8_tree.specs.Statements.{Forever, From, statement, Action, Do, Repeat, Return, Statements, no_statements, ◌▹◌}
 use Rattle.p8_kinds.specs.declared.name_kinds.NameKind.{NameKind}
 use Rattle.p8_kinds.specs.declared.name_kinds.NameKind.TheVariants as kinds
-use Rattle.p8_instr.specs.Spelling.{spelled}
-use Rattle.p8_instr.specs.Table.{rows}
+use Rattle.p8_bytecode.specs.Spelling.{spelled}
+use Rattle.p8_bytecode.specs.Table.{rows}
 use Rattle.p8_kinds.specs.Meanings.{outside_operands}
 use Rattle.p8_gen.specs.Names.{Names, all_wide}
 use Rattle.p8_gen.specs.Pieces.{Piece, empty, ◌⨾◌, byte}

@@ -4,15 +4,15 @@ use Rattle.std.specs.Prelude.{codes, flat_map}
 use Rattle.std.specs.Map.{lookup}
 use Rattle.std.specs.Str.{bytes_eq}
 use Rattle.p8_tree.specs.declared.places.Place.{Place}
-use Rattle.p8_tree.specs.Expressions.{Tree, node, Number, Str, Var, Call, Unary, Binary, Assign, Change, Address, ObjectAddress, Built, Look, Named, Part, Memory, Register, no_index, index, whole, bits, single, range, no_trees, ◌▷◌, no_items, ◌▸◌}
+use Rattle.p8_tree.specs.Expressions.{Tree, node, Number, Str, Strings, Var, Call, Unary, Binary, Assign, Change, Address, ObjectAddress, Built, Look, Named, Part, Memory, Register, no_index, index, whole, bits, single, range, no_trees, ◌▷◌, no_items, ◌▸◌}
 use Rattle.p8_words.specs.Operators.{binary_values}
 use Rattle.p8_kinds.specs.declared.name_kinds.NameKind.{NameKind}
 use Rattle.p8_kinds.specs.declared.name_kinds.NameKind.TheVariants as kinds
 use Rattle.p8_kinds.specs.declared.meanings.Meaning.{Meaning}
 use Rattle.p8_kinds.specs.declared.meanings.Meaning.TheVariants as meaning
 use Rattle.p8_kinds.specs.Meanings.{outside_operands}
-use Rattle.p8_instr.specs.Spelling.{spelled}
-use Rattle.p8_instr.specs.Table.{rows}
+use Rattle.p8_bytecode.specs.Spelling.{spelled}
+use Rattle.p8_bytecode.specs.Table.{rows}
 use Rattle.p8_gen.specs.Names.{Names, all_wide}
 use Rattle.p8_gen.specs.Pieces.{empty}
 use Rattle.p8_gen.specs.Expressions.{alone}
@@ -264,6 +264,11 @@ looking_down_from_0 = refl
 a_text : code_of (node p (Assign (Named (codes "A") no_index p) None (node p (Str (codes "hi"))))) ≡ 0x87 ∷ 0x80 ∷ 0x00 ∷ 0x41 ∷ []
 unfolding rows
 a_text = refl
+
+-- a := string("hi", 13)
+a_list : code_of (node p (Assign (Named (codes "A") no_index p) None (node p (Strings (no_trees ▷ node p (Str (codes "hi")) ▷ number 13))))) ≡ 0x87 ∷ 0x80 ∷ 0x00 ∷ 0x41 ∷ []
+unfolding rows
+a_list = refl
 
 -- a := constant(k + 1)
 a_constant : code_of (node p (Assign (Named (codes "A") no_index p) None (node p (Built 0x00 (no_trees ▷ (node p (Binary 0xEC (node p (Var (Named (codes "K") no_index p))) (number 1)))))))) ≡ 0x38 ∷ 0x0B ∷ 0x41 ∷ []

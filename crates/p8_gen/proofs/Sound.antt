@@ -4,12 +4,12 @@ use Rattle.std.specs.Prelude.{IsTrue}
 use Rattle.std.proofs.lemmas.Bool.Decides.{nat_tests}
 use Rattle.std.proofs.lemmas.List.Elements.{All-push}
 use Rattle.p8_tree.specs.declared.places.Place.{Place}
-use Rattle.p8_instr.specs.declared.op.Op.{Op}
-use Rattle.p8_instr.specs.declared.operands.Operands.{Operands}
-use Rattle.p8_instr.specs.declared.operands.Operands.TheVariants.{Nothing, Offset, OneByte, TwoBytes, ThreeBytes, Register}
-use Rattle.p8_instr.specs.Table.{rows, operands_of, is_effect, is_step, is_register}
-use Rattle.p8_instr.specs.Reading.{bare, changes_register}
-use Rattle.p8_instr.specs.Spelling.{FitsOperands, IsOffset, IsPlace, IsStep, IsChange}
+use Rattle.p8_bytecode.specs.declared.op.Op.{Op}
+use Rattle.p8_bytecode.specs.declared.operands.Operands.{Operands}
+use Rattle.p8_bytecode.specs.declared.operands.Operands.TheVariants.{Nothing, Offset, OneByte, TwoBytes, ThreeBytes, Register}
+use Rattle.p8_bytecode.specs.Table.{rows, operands_of, is_effect, is_step, is_register}
+use Rattle.p8_bytecode.specs.Reading.{bare, changes_register}
+use Rattle.p8_bytecode.specs.Spelling.{FitsOperands, IsOffset, IsPlace, IsStep, IsChange}
 use Rattle.p8_tree.specs.Proper as proper
 use Rattle.p8_gen.specs.Pieces.{Written, Piece, nothing, one, ◌⨾◌, up_to_end, up_to_jumps, of_statement, byte, with_number, text, jump, end_of_jump, jumping, end_of_jumping, offset, is_near}
 use Rattle.p8_gen.specs.Variables.{number, Base, Pushed, OfObject, OfVariables, OfFrame, Home, home_at, Operation, Push, Pop, Using, Reference, action_of, effect_of, size_bits, base_bits, memory_op, short_bits, is_short, short_or_long, plain_op, register, operation_bits}

@@ -3,13 +3,13 @@ use Rattle.std.proofs.Common.{◌≡◌, ℕ, ◌^◌, ◌<◌, Bool, true, fals
 use Rattle.std.specs.Prelude.{IsTrue, IfSome, option_map}
 use Rattle.std.proofs.lemmas.List.{length-append}
 use Rattle.p8_tree.specs.declared.places.Place.{Place}
-use Rattle.p8_tree.specs.Expressions.{Tree, node, Form, Number, Str, Here, Var, Call, Unary, Binary, Assign, Change, Address, ObjectAddress, ObjConst, Built, Look, Variable, Named, Part, Memory, Register, Index, no_index, index, whole, bits, single, range, Trees, no_trees, ◌▷◌, Items, no_items, ◌▸◌}
+use Rattle.p8_tree.specs.Expressions.{Tree, node, Form, Number, Str, Strings, Here, Var, Call, Unary, Binary, Assign, Change, Address, ObjectAddress, ObjConst, Built, Look, Variable, Named, Part, Memory, Register, Index, no_index, index, whole, bits, single, range, Trees, no_trees, ◌▷◌, Items, no_items, ◌▸◌}
 use Rattle.p8_tree.specs.Lists.{tree_list, count_of_trees}
 use Rattle.p8_tree.specs.Proper.{IfThere, is_binary, is_change, is_operator_alone, gives_value, gives_no_value, arguments_fit, arguments_fit_alone, IsProperTree, IsProperForm, IsProperVariable, IsProperIndex, AreProperTrees, AreProperItems, IsDoneForm, IsDone}
-use Rattle.p8_instr.specs.Table.{rows, operands_of}
-use Rattle.p8_instr.specs.Reading.{bare, has_base, changes_variable}
-use Rattle.p8_instr.specs.Spelling.{IsPlace, IsChange}
-use Rattle.p8_instr.specs.declared.operands.Operands.TheVariants as operands
+use Rattle.p8_bytecode.specs.Table.{rows, operands_of}
+use Rattle.p8_bytecode.specs.Reading.{bare, has_base, changes_variable}
+use Rattle.p8_bytecode.specs.Spelling.{IsPlace, IsChange}
+use Rattle.p8_bytecode.specs.declared.operands.Operands.TheVariants as operands
 use Rattle.p8_tree.specs.declared.faults.Fault.{Fault}
 use Rattle.p8_tree.specs.Faults.{fault}
 use Rattle.p8_tree.specs.declared.refusal.Refusal.TheVariants.{Unknown, WrongKind, WrongArity}
@@ -281,6 +281,7 @@ module _ (n : Names) (few : HaveBytes n) (env : Environment) (same : (name : Lis
     form_sound : (place : Place) (form : Form) → IsProperForm false form → ((f : Fault) → ¬ BrokenInside (in_method env) form f) → Sound (value_of_form n place form)
     form_sound place (Number v) proper clean = numbers v
     form_sound place (Str letters) proper clean = texts place (n.text place)
+    form_sound place (Strings es) proper clean = texts place (n.text place)
     form_sound place Here proper clean = nothings
     form_sound place (Var (Named name no_index q)) proper clean = name_sound name (n.kind name) (few.kinds name)
     form_sound place (Var (Named name (index e) q)) proper clean = operate_sound (Named name (index e) q) Push proper clean tt

@@ -1,5 +1,5 @@
 -- The walk over expressions: arguments and items one after the other, the forms of built-ins, and the end of a LOOK function.
-use Rattle.std.proofs.Common.{◌≡◌, ℕ, ◌+◌, ◌<◌, ◌==◌, Bool, true, false, not, if◌then◌else◌, List, [], ◌∷◌, Option, Some, None, length, take, get_or, refl, sym, ap, ◌∙◌, arith}
+use Rattle.std.proofs.Common.{◌≡◌, ℕ, ◌+◌, ◌%◌, ◌^◌, ◌<◌, ◌==◌, Bool, true, false, not, if◌then◌else◌, List, [], ◌∷◌, Option, Some, None, length, take, get_or, refl, sym, ap, ◌∙◌, arith}
 use Rattle.std.proofs.lemmas.List.{take_more}
 use Rattle.std.proofs.lemmas.Bool.Decides.{nat_tests}
 use Rattle.std.specs.Prelude.{Result, OnOk, Vec, Box}
@@ -13,12 +13,12 @@ use Rattle.p8_tree.specs.declared.expressions.ExprKind.TheVariants as kind_case
 use Rattle.p8_tree.specs.declared.expressions.Target.TheVariants as target_case
 use Rattle.p8_tree.specs.Expressions.{Tree, node, Var, Variable, Named, Part, Memory, Register, no_index, index, Bits, whole, bits, Trees, no_trees, ◌▷◌, Items, Item, single, range, no_items, ◌▸◌}
 use Rattle.p8_tree.specs.Views.{tree_of, form_of, variable_of, call_of, trees_of, trees_after, item_of, items_of}
-use Rattle.p8_tree.specs.Bridges.{boxed_index, trees_of-push, items_of-push, built_is, look_is}
+use Rattle.p8_tree.specs.Bridges.{boxed_index, trees_of-push, items_of-push, strings_is, built_is, look_is}
 use Rattle.p8_kinds.specs.Verdicts.{boxed_bits}
 use Rattle.p8_kinds.proofs.ValueRows.{call_form}
 use Rattle.p8_gen.specs.declared.expressions.BuiltForm.TheVariants as built_form
 use Rattle.p8_gen.specs.Names.{Names}
-use Rattle.p8_gen.specs.Pieces.{Written, Piece, byte, ◌⨾◌, up_to_end}
+use Rattle.p8_gen.specs.Pieces.{Written, Piece, byte, text, ◌⨾◌, up_to_end}
 use Rattle.p8_gen.specs.Variables.{Operation}
 use Rattle.p8_gen.specs.Expressions.{value, value_of_form, alone, arguments, counts_from, looks_down, operate, in_home, pushed_home, values, looks, built, call_of_built, started}
 use Rattle.p8_gen.specs.Walking.{call_piece, looked, started_value, IsBuiltForm}
@@ -158,6 +158,9 @@ module _ (n : Names) (place : Place) where
 
   pub alone_of_built : (c : ℕ) (v : Vec expr.Expr Global) → call_of_built n false c (trees_of v.items) ≡ alone n (node place (form_of (kind_case.Built c v)))
   alone_of_built c v = sym (ap (λ f. alone n (node place f)) (built_is c v))
+
+  pub value_of_strings : (v : Vec expr.Expr Global) → text place (n.text place % 2 ^ 15) ≡ value_of_form n place (form_of (kind_case.Strings v))
+  value_of_strings v = sym (ap (value_of_form n place) (strings_is v))
 
   pub value_of_look : (c : ℕ) (b : Box expr.Expr Global) (v : Vec item.Item Global) → (value n (tree_of b.value) ⨾ counts_from c ⨾ up_to_end (looked n (looks_down c) (items_of v.items))) ≡ value_of_form n place (form_of (kind_case.Look c b v))
   value_of_look c b v = sym (ap (value_of_form n place) (look_is c b v))

@@ -3,8 +3,8 @@
 -- of evaluation and the choice of forms are this project's profile.
 use Rattle.std.specs.Prelude.{ℕ, ◌+◌, ◌%◌, ◌^◌, ◌==◌, nat_le, ◌&&◌, ◌||◌, Bool, true, false, not, if◌then◌else◌, List, Option, Some, None}
 use Rattle.p8_tree.specs.declared.places.Place.{Place}
-use Rattle.p8_tree.specs.Expressions.{Tree, node, Form, Number, Str, Here, Var, Call, Unary, Binary, Assign, Change, Address, ObjectAddress, ObjConst, Built, Look, Variable, Named, Part, Memory, Register, Index, no_index, index, whole, bits, single, range, Trees, no_trees, ◌▷◌, Items, no_items, ◌▸◌}
-use Rattle.p8_instr.specs.Reading.{bare}
+use Rattle.p8_tree.specs.Expressions.{Tree, node, Form, Number, Str, Strings, Here, Var, Call, Unary, Binary, Assign, Change, Address, ObjectAddress, ObjConst, Built, Look, Variable, Named, Part, Memory, Register, Index, no_index, index, whole, bits, single, range, Trees, no_trees, ◌▷◌, Items, no_items, ◌▸◌}
+use Rattle.p8_bytecode.specs.Reading.{bare}
 use Rattle.p8_kinds.specs.declared.name_kinds.NameKind.{NameKind}
 use Rattle.p8_kinds.specs.declared.name_kinds.NameKind.TheVariants as kinds
 use Rattle.p8_words.specs.Operators.{or_zero}
@@ -159,6 +159,7 @@ abbrev mutual
   pub value_of_form : Names → Place → Form → Piece
   value_of_form names place (Number n) = number n
   value_of_form names place (Str letters) = text place (names.text place % 2 ^ 15)
+  value_of_form names place (Strings es) = text place (names.text place % 2 ^ 15)
   value_of_form names place Here = nothing
   value_of_form names place (Var (Named name no_index q)) = name_alone names name (names.kind name)
   value_of_form names place (Var v) = operate names v Push

@@ -1,6 +1,6 @@
 -- The code of a method.
 use Rattle.std.specs.Prelude.{ℕ, List, flat_map, None}
-use Rattle.p8_instr.specs.Spelling.{spelled}
+use Rattle.p8_bytecode.specs.Spelling.{spelled}
 use Rattle.p8_tree.specs.Statements.{Statements}
 use Rattle.p8_gen.specs.Names.{Names}
 use Rattle.p8_gen.specs.Pieces.{Written, empty, ◌⨾◌, of_statement, byte}

@@ -7,9 +7,9 @@
 -- Source: the public Spin bytecode listing of the Propeller P8X32A; the choice of widths is this project's profile.
 use Rattle.std.specs.Prelude.{ℕ, ◌+◌, ◌-◌, ◌%◌, ◌^◌, Bool, nat_le, nat_lt, ◌&&◌, if◌then◌else◌, List, [], ◌∷◌, ◌++◌, length}
 use Rattle.p8_tree.specs.declared.places.Place.{Place}
-use Rattle.p8_instr.specs.declared.op.Op.{Op}
-use Rattle.p8_instr.specs.Reading.{bare, offset_size}
-use Rattle.p8_instr.specs.Spelling.{spelled}
+use Rattle.p8_bytecode.specs.declared.op.Op.{Op}
+use Rattle.p8_bytecode.specs.Reading.{bare, offset_size}
+use Rattle.p8_bytecode.specs.Spelling.{spelled}
 
 -- the code of a method so far
 pub record Written : Type 0 where

@@ -9,7 +9,7 @@ ghost use Rattle.p8_gen.specs.Writing.{Stands};
 
 use crate::coder::Coder;
 use crate::writer::{Writer, bare};
-use p8_instr::Op;
+use p8_bytecode::Op;
 use p8_kinds::NameKind;
 use p8_tree::{Expr, ExprKind, Target, Text};
 use std::alloc::AllocError;

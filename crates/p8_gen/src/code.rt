@@ -8,7 +8,7 @@ ghost use Rattle.p8_gen.specs.Uses.{use_of};
 
 use crate::coder::{Coder, Tables};
 use crate::writer::Writer;
-use p8_instr::Op;
+use p8_bytecode::Op;
 use p8_kinds::{Label, Named};
 use p8_tree::{Expr, List, Place};
 use p8_words::NoMemory;

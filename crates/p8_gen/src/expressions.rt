@@ -31,6 +31,7 @@ impl Coder<'_> {
         match &expr.kind {
             ExprKind::Number(number) => out.number(*number),
             ExprKind::Str(_) => out.text(expr.place),
+            ExprKind::Strings(_) => out.text(expr.place),
             ExprKind::Here => Ok(()),
             ExprKind::Var(variable) => self.variable(variable, out),
             ExprKind::Call(call) => self.call(true, call, out),

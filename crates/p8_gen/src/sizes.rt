@@ -1,9 +1,9 @@
 // How many bytes bytecodes have.
 ghost use Rattle.std.specs.Prelude.{◌≡◌, ◌≤◌, ℕ, Option, length, if◌then◌else◌, [], Some, None};
-ghost use Rattle.p8_instr.specs.Reading.{has_base, changes_register, changes_variable};
-ghost use Rattle.p8_instr.specs.Spelling.{spelled, operand_bytes, effect_bytes, place_bytes, has_long_place, offset_bytes};
+ghost use Rattle.p8_bytecode.specs.Reading.{has_base, changes_register, changes_variable};
+ghost use Rattle.p8_bytecode.specs.Spelling.{spelled, operand_bytes, effect_bytes, place_bytes, has_long_place, offset_bytes};
 
-use p8_instr::{Op, Operands, operands_of};
+use p8_bytecode::{Op, Operands, operands_of};
 
 /// How many bytes a bytecode has as a compiler writes it.
 pub(crate) fn size_of(op: &Op) -> u32

@@ -1,6 +1,6 @@
 // The code of numbers, and of what is done with a variable once it is named.
 ghost use Rattle.std.specs.Prelude.{◌≡◌, ◌≤◌, ◌<◌, ◌+◌, OnOk};
-ghost use Rattle.p8_instr.specs.Reading.{bare};
+ghost use Rattle.p8_bytecode.specs.Reading.{bare};
 ghost use Rattle.p8_gen.specs.Pieces.{Written};
 ghost use Rattle.p8_gen.specs.Variables.{number, home_at, home_of, home_of_kind, memory_op, plain_op, register, effect_for, effect_by, leaving, assigned, counts, is_short, size_bits, base_bits, action_of, effect_of, operation_bits};
 ghost use Rattle.p8_gen.specs.Expressions.{sized};
@@ -10,7 +10,7 @@ ghost use Rattle.p8_gen.specs.Writing.{Stands};
 
 use crate::coder::Coder;
 use crate::writer::{Writer, bare};
-use p8_instr::Op;
+use p8_bytecode::Op;
 use p8_kinds::NameKind;
 use p8_tree::Text;
 use std::alloc::AllocError;

@@ -1,7 +1,7 @@
 // Writing code.
 ghost use Rattle.std.specs.Prelude.{◌≡◌, ◌≤◌, ◌+◌, ℕ, OnOk, Some, None, false, true, [], ◌∷◌, ◌++◌, length, IfOk};
 ghost use Rattle.std.specs.Bool.{OnTrue, OnFalse};
-ghost use Rattle.p8_instr.specs.Spelling.{spelled};
+ghost use Rattle.p8_bytecode.specs.Spelling.{spelled};
 ghost use Rattle.p8_gen.specs.Names.{wide_in};
 ghost use Rattle.p8_gen.specs.Pieces.{Written, empty, nowhere, from_place, one, byte, with_number, text, jump_by, jump, jumping, jump_size, offset, told, reach, is_near};
 ghost use Rattle.p8_gen.specs.Uses.{way_of};
@@ -9,7 +9,7 @@ ghost use Rattle.p8_gen.specs.Writing.{Stands};
 
 use crate::code::StringUse;
 use crate::sizes::size_of;
-use p8_instr::Op;
+use p8_bytecode::Op;
 use p8_tree::Place;
 use std::alloc::{AllocError, Global};
 use std::mem;

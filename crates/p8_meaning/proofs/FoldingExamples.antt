@@ -4,7 +4,7 @@ use Rattle.std.specs.Prelude.{codes, if◌then◌else◌}
 use Rattle.std.specs.Str.{bytes_eq}
 use Rattle.p8_tree.specs.declared.places.Place.{Place}
 use Rattle.p8_tree.specs.Expressions as expressions
-use Rattle.p8_tree.specs.Expressions.{Tree, node, Var, Unary, Binary, Built, Change, Named, no_index, no_trees, ◌▷◌, single, no_items, ◌▸◌}
+use Rattle.p8_tree.specs.Expressions.{Tree, node, Str, Strings, Var, Unary, Binary, Built, Change, Named, no_index, no_trees, ◌▷◌, single, no_items, ◌▸◌}
 use Rattle.p8_tree.specs.Statements.{statement, Action, Do, If, Repeat, Next, Forever, Count, Before, After, Arm, arm, nothing_else, otherwise, Statements, no_statements, ◌▹◌, no_arms, ◌⊳◌}
 use Rattle.p8_words.specs.Operators.{unary_values, binary_values}
 use Rattle.p8_meaning.specs.Constants.{Constants}
@@ -64,6 +64,10 @@ sum = refl
 -- what stands in CONSTANT stays
 inside : folded three (node here (Built 0 (no_trees ▷ between 0xEC (number 1) (number 1)))) ≡ node here (Built 0 (no_trees ▷ between 0xEC (number 1) (number 1)))
 inside = refl
+
+-- so do the items of STRING
+items : folded three (node here (Strings (no_trees ▷ node here (Str (codes "ab")) ▷ between 0xEC (number 1) (number 1)))) ≡ node here (Strings (no_trees ▷ node here (Str (codes "ab")) ▷ between 0xEC (number 1) (number 1)))
+items = refl
 
 -- ---- statements
 

@@ -10,7 +10,7 @@ use Rattle.p8_access.specs.declared.kinds.Access.TheVariants as asked
 use Rattle.p8_access.specs.declared.kinds.Reason.TheVariants as Why
 use Rattle.p8_access.specs.declared.kinds.Test.TheVariants as test_case
 use Rattle.p8_tree.specs.Names.{result_word}
-use Rattle.p8_tree.specs.Expressions.{Tree, node, Number, Str, Here, Var, Call, Unary, Binary, Assign, Change, Address, ObjectAddress, ObjConst, Built, Look, Variable, Named, Part, Memory, Register, Index, no_index, index, Bits, whole, bits, Item, single, range, Trees, no_trees, ◌▷◌, Items, no_items, ◌▸◌}
+use Rattle.p8_tree.specs.Expressions.{Tree, node, Number, Str, Strings, Here, Var, Call, Unary, Binary, Assign, Change, Address, ObjectAddress, ObjConst, Built, Look, Variable, Named, Part, Memory, Register, Index, no_index, index, Bits, whole, bits, Item, single, range, Trees, no_trees, ◌▷◌, Items, no_items, ◌▸◌}
 use Rattle.p8_tree.specs.Sources.{MethodTree}
 use Rattle.p8_tree.specs.declared.places.Place.{Place}
 use Rattle.p8_tree.specs.Statements.{Course as Loop, Forever, Count, Before, After, From, Statement, statement, Action, Do, If, Case, Repeat, Next, Quit, Return, Abort, arm, Otherwise, nothing_else, otherwise, Statements, no_statements, ◌▹◌, Arms, no_arms, ◌⊳◌}
@@ -229,6 +229,7 @@ module _ (callee other : Callee) (s : Scope) (abort aborts : Returned → Rest) 
     pub evaluates-goes : (e : Tree) {k l : ℕ → Rest} → Leads k l → Goes (expressions.evaluates callee s abort e k) (expressions.evaluates other s aborts e l)
     evaluates-goes (node place (Number n)) g = g n
     evaluates-goes (node place (Str text)) g = g _
+    evaluates-goes (node place (Strings es)) g = g _
     evaluates-goes (node place Here) g = untold-goes untold
     evaluates-goes (node place (Var v)) g = evaluates_variable-goes v g
     evaluates-goes (node place (Call trap object i method at arguments)) g =
@@ -293,6 +294,7 @@ module _ (callee other : Callee) (s : Scope) (abort aborts : Returned → Rest) 
     begins-goes id (node place (Var (Register register x at))) first second g = begins_pasm-goes id first second g
     begins-goes id (node place (Number n)) first second g = begins_pasm-goes id first second g
     begins-goes id (node place (Str text)) first second g = begins_pasm-goes id first second g
+    begins-goes id (node place (Strings es)) first second g = begins_pasm-goes id first second g
     begins-goes id (node place Here) first second g = begins_pasm-goes id first second g
     begins-goes id (node place (Unary operator e)) first second g = begins_pasm-goes id first second g
     begins-goes id (node place (Binary operator e f)) first second g = begins_pasm-goes id first second g
@@ -323,6 +325,7 @@ module _ (callee other : Callee) (s : Scope) (abort aborts : Returned → Rest) 
   acts-goes (node place (Var (Register register x at))) g = evaluates-goes (node place (Var (Register register x at))) (λ x. g)
   acts-goes (node place (Number n)) g = g
   acts-goes (node place (Str text)) g = g
+  acts-goes (node place (Strings es)) g = g
   acts-goes (node place Here) g = untold-goes untold
   acts-goes (node place (Unary operator e)) g = evaluates-goes (node place (Unary operator e)) (λ x. g)
   acts-goes (node place (Binary operator e f)) g = evaluates-goes (node place (Binary operator e f)) (λ x. g)

@@ -1,6 +1,6 @@
 -- A tree in which no expression becomes a number is the same.
 use Rattle.std.proofs.Common.{◌≡◌, refl, ap, ap₂, ℕ, ◌==◌, Bool, true, false, if◌then◌else◌, Option, None}
-use Rattle.p8_tree.specs.Expressions.{Tree, node, Form, Number, Str, Here, Var, Call, Unary, Binary, Assign, Change, Address, ObjectAddress, ObjConst, Built, Look, Variable, Named, Part, Memory, Register, Index, no_index, index, Bits, whole, bits, Item, single, range, Trees, no_trees, ◌▷◌, Items, no_items, ◌▸◌}
+use Rattle.p8_tree.specs.Expressions.{Tree, node, Form, Number, Str, Strings, Here, Var, Call, Unary, Binary, Assign, Change, Address, ObjectAddress, ObjConst, Built, Look, Variable, Named, Part, Memory, Register, Index, no_index, index, Bits, whole, bits, Item, single, range, Trees, no_trees, ◌▷◌, Items, no_items, ◌▸◌}
 use Rattle.p8_meaning.specs.Folding.{tree_with, form_with, variable_with, index_with, bits_with, item_with, trees_with, arguments_with, items_with}
 
 abbrev none : Tree → Option ℕ
@@ -17,6 +17,7 @@ mutual
   form-kept : (form : Form) → form_with none form ≡ form
   form-kept (Number n) = refl
   form-kept (Str text) = refl
+  form-kept (Strings es) = refl
   form-kept Here = refl
   form-kept (Var v) = ap Var (variable-kept v)
   form-kept (Call stops object i method at arguments) = ap₂ (λ i es. Call stops object i method at es) (index-kept i) (trees-kept arguments)
@@ -48,7 +49,7 @@ mutual
   item-kept (single e) = ap single (tree-kept e)
   item-kept (range e f) = ap₂ range (tree-kept e) (tree-kept f)
 
-  trees-kept : (es : Trees) → trees_with none es ≡ es
+  pub trees-kept : (es : Trees) → trees_with none es ≡ es
   trees-kept no_trees = refl
   trees-kept (es ▷ e) = ap₂ (λ es e. es ▷ e) (trees-kept es) (tree-kept e)
 

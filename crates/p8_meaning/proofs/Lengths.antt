@@ -2,7 +2,7 @@
 use Rattle.std.proofs.lemmas.Bool.Decides.{nat_tests}
 use Rattle.std.proofs.Common.{◌≡◌, refl, ap, ap₂, ◌∙◌, ℕ, ◌+◌, ◌-◌, ◌≤◌, ◌^◌, ◌==◌, ◌||◌, nat_le, nat_lt, Bool, true, false, if◌then◌else◌, Option, Some, None, option_map, arith}
 use Rattle.std.specs.Prelude.{min}
-use Rattle.p8_tree.specs.Expressions.{Tree, node, Number, Str, Here, Var, Call, Unary, Binary, Assign, Change, Address, ObjectAddress, ObjConst, Built, Look}
+use Rattle.p8_tree.specs.Expressions.{Tree, node, Number, Str, Strings, Here, Var, Call, Unary, Binary, Assign, Change, Address, ObjectAddress, ObjConst, Built, Look}
 use Rattle.p8_words.specs.Operators.{unary_value, binary_value, or_zero}
 use Rattle.p8_meaning.specs.Constants.{Constants, value_of_name, both, constant_value, number_length, unary_length, code_length, within}
 use Rattle.p8_meaning.specs.declared.known.Numbers.{Numbers}
@@ -53,6 +53,7 @@ known-told c (node place (Unary operator e)) = ap (known_before operator) (known
 known-told c (node place (Binary operator a b)) =
     ap₂ (known_between operator) (known-told c a) (known-told c b) ∙ between-told operator (constant_value c a) (constant_value c b) (code_length c a) (code_length c b)
 known-told c (node place (Str text)) = refl
+known-told c (node place (Strings es)) = refl
 known-told c (node place Here) = refl
 known-told c (node place (Call stops object i method at arguments)) = refl
 known-told c (node place (Assign v operator e)) = refl
@@ -70,6 +71,7 @@ known-kept c (node place (ObjConst object name at)) = refl
 known-kept c (node place (Unary operator e)) = ap (known_before operator) (known-kept c e)
 known-kept c (node place (Binary operator a b)) = ap (λ o. known_between operator o (known_of Kept c b)) (known-kept c a)
 known-kept c (node place (Str text)) = refl
+known-kept c (node place (Strings es)) = refl
 known-kept c (node place Here) = refl
 known-kept c (node place (Call stops object i method at arguments)) = refl
 known-kept c (node place (Assign v operator e)) = refl

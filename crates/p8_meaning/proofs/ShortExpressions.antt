@@ -4,7 +4,7 @@ use Rattle.std.specs.Str.{bytes_eq}
 use Rattle.p8_tree.specs.declared.places.Place.{Place}
 use Rattle.p8_tree.specs.Names.{result_word}
 use Rattle.p8_tree.specs.Sources.{Source}
-use Rattle.p8_tree.specs.Expressions.{Tree, node, Form, Number, Str, Here, Var, Call, Unary, Binary, Assign, Change, Address, ObjectAddress, ObjConst, Built, Look, Variable, Named, Part, Memory, Register, Index, no_index, index, Bits, whole, bits, Item, single, range, Trees, no_trees, ◌▷◌, Items, no_items, ◌▸◌}
+use Rattle.p8_tree.specs.Expressions.{Tree, node, Form, Number, Str, Strings, Here, Var, Call, Unary, Binary, Assign, Change, Address, ObjectAddress, ObjConst, Built, Look, Variable, Named, Part, Memory, Register, Index, no_index, index, Bits, whole, bits, Item, single, range, Trees, no_trees, ◌▷◌, Items, no_items, ◌▸◌}
 use Rattle.p8_words.specs.Operators.{unary_value, binary_value, or_zero}
 use Rattle.p8_kinds.specs.declared.meanings.Meaning.TheVariants as meaning_case
 use Rattle.p8_kinds.specs.Values as constants
@@ -99,6 +99,7 @@ module _ (callee : Callee) (s : Scope) (abort : Returned → Rest) where
       worth-binary operator (constant_value (constants_of s.file s.method) a) (constant_value (constants_of s.file s.method) b)
       (expressions.evaluates callee s abort a) (expressions.evaluates callee s abort b) (worth a) (worth b)
   worth (node place (Str text)) = tt
+  worth (node place (Strings es)) = tt
   worth (node place Here) = tt
   worth (node place (Var (Named name (index e) at))) = tt
   worth (node place (Var (Part name size i at))) = tt
@@ -189,6 +190,7 @@ module _ (callee : Callee) (s : Scope) (abort : Returned → Rest) (program : Pr
     pub form-same : (place : Place) (form : Form) (go : ℕ → Rest) → expressions.evaluates callee (moved program source s) abort (node place (form_with (shorter_number (constants_of s.file s.method)) form)) go ≡ expressions.evaluates callee s abort (node place form) go
     form-same place (Number n) go = refl
     form-same place (Str text) go = refl
+    form-same place (Strings es) go = refl
     form-same place Here go = refl
     form-same place (Var v) go = variable-same v go
     form-same place (Call stops object i method at arguments) go =
@@ -257,6 +259,7 @@ module _ (callee : Callee) (s : Scope) (abort : Returned → Rest) (program : Pr
     begins-same id (node place (Number n)) p q x y first second go =
         begins_number id place n _ p x go ∙ begins_pasm-same program source s folds callee abort id p q x y first second go
     begins-same id (node place (Str text)) p q x y first second go = begins_pasm-same program source s folds callee abort id p q x y first second go
+    begins-same id (node place (Strings es)) p q x y first second go = begins_pasm-same program source s folds callee abort id p q x y first second go
     begins-same id (node place Here) p q x y first second go = begins_pasm-same program source s folds callee abort id p q x y first second go
     begins-same id (node place (Unary operator e)) p q x y first second go =
         begins_unary id place operator _ _ p x go ∙ begins_pasm-same program source s folds callee abort id p q x y first second go
@@ -294,6 +297,7 @@ module _ (callee : Callee) (s : Scope) (abort : Returned → Rest) (program : Pr
   acts-same (node place (Var (Register register i at))) go = form-same place (Var (Register register i at)) (λ x. go)
   acts-same (node place (Number n)) go = refl
   acts-same (node place (Str text)) go = refl
+  acts-same (node place (Strings es)) go = refl
   acts-same (node place Here) go = refl
   acts-same (node place (Unary operator e)) go = form-same place (Unary operator e) (λ x. go)
   acts-same (node place (Binary operator e f)) go = form-same place (Binary operator e f) (λ x. go)

@@ -2,7 +2,7 @@
 use Rattle.std.proofs.Common.{◌≡◌, refl, sym, ap, ◌∙◌, ℕ, suc, ◌==◌, Bool, true, false, if◌then◌else◌, List, Option, Some, None, option_map}
 use Rattle.p8_tree.specs.declared.places.Place.{Place}
 use Rattle.p8_tree.specs.Sources.{Source}
-use Rattle.p8_tree.specs.Expressions.{Tree, node, Number, Str, Here, Var, Call, Unary, Binary, Assign, Change, Address, ObjectAddress, ObjConst, Built, Look, Item, single, range, Items, no_items, ◌▸◌}
+use Rattle.p8_tree.specs.Expressions.{Tree, node, Number, Str, Strings, Here, Var, Call, Unary, Binary, Assign, Change, Address, ObjectAddress, ObjConst, Built, Look, Item, single, range, Items, no_items, ◌▸◌}
 use Rattle.p8_tree.specs.Statements.{Course as Loop, Forever, Count, Before, After, From, Statement, statement, Action, Do, If, Case, Repeat, Next, Quit, Return, Abort, arm, Otherwise, nothing_else, otherwise, Statements, no_statements, ◌▹◌, Arms, no_arms, ◌⊳◌}
 use Rattle.p8_meaning.specs.Values as values
 use Rattle.p8_meaning.specs.Values.{difference, is_between, stepped}
@@ -68,6 +68,7 @@ module _ (most : ℕ) (callee : Callee) (s : Scope) (return abort : Returned →
   number-worth : (e : Tree) → Worth (number_in e) (statements.value_of (suc most) callee (moved program source s) return abort e)
   number-worth (node place (Number n)) = λ go. refl
   number-worth (node place (Str text)) = tt
+  number-worth (node place (Strings es)) = tt
   number-worth (node place Here) = tt
   number-worth (node place (Var v)) = tt
   number-worth (node place (Call stops object i method at arguments)) = tt

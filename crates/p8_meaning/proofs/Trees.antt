@@ -12,9 +12,9 @@ use Rattle.p8_tree.specs.declared.expressions.Expr as expr
 use Rattle.p8_tree.specs.declared.expressions.Item as item
 use Rattle.p8_tree.specs.declared.expressions.Call as call
 use Rattle.p8_tree.specs.declared.expressions.Call.{out-Call, roll-Call}
-use Rattle.p8_tree.specs.Expressions.{Tree, node, Form, Call, Built, Look, Trees, no_trees, ◌▷◌, ◌▸◌}
+use Rattle.p8_tree.specs.Expressions.{Tree, node, Form, Strings, Call, Built, Look, Trees, no_trees, ◌▷◌, ◌▸◌}
 use Rattle.p8_tree.specs.Views.{tree_of, form_of, trees_of, trees_after, items_of, item_of, call_of}
-use Rattle.p8_tree.specs.Bridges.{boxed_index, call_is, built_is, look_is, trees_of-push, items_of-push}
+use Rattle.p8_tree.specs.Bridges.{boxed_index, call_is, strings_is, built_is, look_is, trees_of-push, items_of-push}
 use Rattle.p8_kinds.proofs.ValueRows.{call_form}
 use Rattle.p8_meaning.specs.Constants.{Constants}
 use Rattle.p8_meaning.specs.Folding.{tree_with, form_with, trees_with, items_with, item_with, index_with, arguments_with}
@@ -25,7 +25,7 @@ use Rattle.p8_meaning.specs.declared.known.Numbers.TheVariants.{Kept}
 use Rattle.p8_meaning.specs.Known.{number_by, known_of, shorter_known, for_arguments}
 use Rattle.p8_meaning.specs.Copies.{with_number}
 use Rattle.p8_meaning.proofs.Lengths.{number-known}
-use Rattle.p8_meaning.proofs.Keeping.{tree-kept}
+use Rattle.p8_meaning.proofs.Keeping.{tree-kept, trees-kept}
 
 -- an expression is its form, or its number
 pub reduced-is : (numbers : Numbers) (c : Constants) (place : Place) (form : Form)
@@ -107,6 +107,13 @@ arguments-is numbers c code (x ∷ y ∷ xs) =
 
 -- ---- forms that hold a vector
 
+pub strings-form : (numbers : Numbers) (c : Constants) (place : Place) (k : kind.ExprKind) (v w : Vec expr.Expr Global) (es : List expr.Expr) → k ≡ kind_case.Strings v
+    → es ≡ v.items → trees_of w.items ≡ trees_with (number_by Kept c) (trees_of es)
+    → node place (Strings (trees_of w.items)) ≡ node place (form_with (number_by numbers c) (form_of k))
+strings-form numbers c place k v w es is at h =
+    ap (λ ts. node place (Strings ts)) (h ∙ trees-kept (trees_of es) ∙ ap trees_of at)
+    ∙ sym (ap (λ f. node place (form_with (number_by numbers c) f)) (ap form_of is ∙ strings_is v))
+
 pub built-form : (numbers inside : Numbers) (c : Constants) (place : Place) (code : ℕ) (k : kind.ExprKind) (v w : Vec expr.Expr Global) (es fs : List expr.Expr) → k ≡ kind_case.Built code v
     → es ≡ v.items → fs ≡ v.items → inside ≡ for_arguments numbers code (length es) → trees_of w.items ≡ trees_with (number_by inside c) (trees_of fs)
     → node place (Built code (trees_of w.items)) ≡ node place (form_with (number_by numbers c) (form_of k))
@@ -123,3 +130,6 @@ look-form number place code k b v w e is value items =
 
 pub call-known : (numbers : Numbers) (c : Constants) (place : Place) (k : kind.ExprKind) (x : call.Call) → k ≡ kind_case.Call x → None ≡ known_of numbers c (node place (form_of k))
 call-known numbers c place k x is = sym (ap (λ k. known_of numbers c (node place (form_of k))) is ∙ ap (λ f. known_of numbers c (node place f)) (call_form x))
+
+pub strings-known : (numbers : Numbers) (c : Constants) (place : Place) (k : kind.ExprKind) (v : Vec expr.Expr Global) → k ≡ kind_case.Strings v → None ≡ known_of numbers c (node place (form_of k))
+strings-known numbers c place k v is = sym (ap (λ k. known_of numbers c (node place (form_of k))) is ∙ ap (λ f. known_of numbers c (node place f)) (strings_is v))

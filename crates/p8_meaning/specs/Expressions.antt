@@ -3,7 +3,7 @@
 use Rattle.std.specs.Prelude.{ℕ, ◌+◌, ◌%◌, ◌^◌, ◌==◌, nat_le, Bool, false, List, [], ◌∷◌, ◌++◌, Option, Some, None, if◌then◌else◌}
 use Rattle.std.specs.Str.{bytes_eq}
 use Rattle.p8_tree.specs.Names.{result_word}
-use Rattle.p8_tree.specs.Expressions.{Tree, node, Number, Str, Here, Var, Call, Unary, Binary, Assign, Change, Address, ObjectAddress, ObjConst, Built, Look, Variable, Named, Part, Memory, Register, Index, no_index, index, Bits, whole, bits, Item, single, range, Trees, no_trees, ◌▷◌, Items, no_items, ◌▸◌}
+use Rattle.p8_tree.specs.Expressions.{Tree, node, Number, Str, Strings, Here, Var, Call, Unary, Binary, Assign, Change, Address, ObjectAddress, ObjConst, Built, Look, Variable, Named, Part, Memory, Register, Index, no_index, index, Bits, whole, bits, Item, single, range, Trees, no_trees, ◌▷◌, Items, no_items, ◌▸◌}
 use Rattle.p8_words.specs.Operators.{unary_value, binary_value, or_zero}
 use Rattle.p8_kinds.specs.Values as constants
 use Rattle.p8_kinds.specs.declared.name_kinds.NameKind.{NameKind}
@@ -97,6 +97,7 @@ module _ (callee : Callee) (s : Scope) (abort : Returned → Rest) where
     pub evaluates : Tree → Gives ℕ
     evaluates (node place (Number n)) go = go n
     evaluates (node place (Str text)) go = go ((s.instance.base + s.addresses.text s.instance.file place) % 2 ^ 16)
+    evaluates (node place (Strings es)) go = go ((s.instance.base + s.addresses.text s.instance.file place) % 2 ^ 16)
     evaluates (node place Here) go = untold
     evaluates (node place (Var v)) go = evaluates_variable v go
     evaluates (node place (Call stops object i method at arguments)) go =

@@ -16,7 +16,7 @@ number_or (Some n) form = Number n
 number_or None form = form
 
 -- The same tree, with a number in place of each expression of which one is given here. Of expressions that stand in one another the outermost
--- is looked at first.
+-- is looked at first. The items of STRING stay.
 abbrev mutual
   pub tree_with : (number : Tree → Option ℕ) → Tree → Tree
   tree_with number (node place form) = node place (number_or (number (node place form)) (form_with number form))

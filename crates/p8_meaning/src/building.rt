@@ -1,6 +1,6 @@
 // Copies of expressions, from copies of their parts.
 ghost use Rattle.std.specs.Prelude.{◌≡◌, IfOk, OnOk, None};
-ghost use Rattle.p8_tree.specs.Expressions.{node, Number, Str, Var, Unary, Binary, Assign, ObjConst, Built, Look, Named, Part, Memory, Register, single, range, bits};
+ghost use Rattle.p8_tree.specs.Expressions.{node, Number, Str, Strings, Var, Unary, Binary, Assign, ObjConst, Built, Look, Named, Part, Memory, Register, single, range, bits};
 ghost use Rattle.p8_tree.specs.Views.{tree_of, form_of, variable_of, trees_of, items_of, item_of};
 ghost use Rattle.p8_tree.specs.Bridges.{boxed_index};
 ghost use Rattle.p8_kinds.specs.Verdicts.{boxed_bits};
@@ -112,6 +112,14 @@ pub(crate) fn string(alloc: Global, place: Place, text: &Text) -> Result<Copied,
 {
     let text = Text::copy_of(alloc, text.as_slice())?;
     Copied::new(alloc, place, ExprKind::Str(text), None)
+}
+
+/// A list of strings and values, as `STRING` has it.
+pub(crate) fn strings(alloc: Global, place: Place, items: Vec<Expr>) -> Result<Copied, AllocError>
+    ensures tree { IfOk result (λ x. tree_of x.tree.value ≡ node place (Strings (trees_of items.items))) }
+    ensures known { IfOk result (λ x. x.known ≡ None) }
+{
+    Copied::new(alloc, place, ExprKind::Strings(items), None)
 }
 
 /// A constant of an object.

@@ -10,7 +10,7 @@ ghost use Rattle.p8_meaning.specs.Copies.{constants_of};
 
 use crate::building::{
     Copied, binary, built, look, memory, named, object_constant, part, register, span, string,
-    unary, value,
+    strings, unary, value,
 };
 use crate::folder::Folder;
 use crate::known::{Numbers, value_behind, value_of_name};
@@ -56,6 +56,10 @@ impl Folder<'_> {
                 Copied::new(alloc, place, ExprKind::Number(*value), known)
             }
             ExprKind::Str(text) => string(alloc, place, text),
+            ExprKind::Strings(items) => {
+                let items = self.expressions(Numbers::Kept, items)?;
+                strings(alloc, place, items)
+            }
             ExprKind::Here => Copied::new(alloc, place, ExprKind::Here, None),
             ExprKind::Var(variable) => {
                 let known = numbers.of(value_of_name(self.consts, variable));

@@ -190,6 +190,7 @@ pub(crate) fn constant_value(consts: &Consts, expr: &Expr) -> Option<u32>
     match &expr.kind {
         ExprKind::Number(value) => Some(*value),
         ExprKind::Str(_) => None,
+        ExprKind::Strings(_) => None,
         ExprKind::Here => None,
         ExprKind::Var(variable) => value_of_name(consts, variable),
         ExprKind::Call(_) => None,

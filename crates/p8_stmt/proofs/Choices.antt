@@ -6,13 +6,13 @@ use Rattle.std.proofs.lemmas.Bool.{cases_lt}
 use Rattle.std.proofs.lemmas.Grind.{flat_map-append}
 use Rattle.std.proofs.lemmas.Option.{same_Some, none-some, slice_get_within}
 use Rattle.p8_tree.specs.declared.places.Place.{Place}
-use Rattle.p8_tree.specs.Expressions.{Tree, node, Form, Number, Str, Here, Var, Call, Unary, Binary, Assign, Change, Address, ObjectAddress, ObjConst, Built, Look, Variable, Named, Part, Memory, Register, Index, no_index, index, whole, bits, single, range, Trees, no_trees, ◌▷◌, Items, no_items, ◌▸◌}
+use Rattle.p8_tree.specs.Expressions.{Tree, node, Form, Number, Str, Strings, Here, Var, Call, Unary, Binary, Assign, Change, Address, ObjectAddress, ObjConst, Built, Look, Variable, Named, Part, Memory, Register, Index, no_index, index, whole, bits, single, range, Trees, no_trees, ◌▷◌, Items, no_items, ◌▸◌}
 use Rattle.p8_tree.specs.Statements.{Forever, Count, Before, After, From, Statement, statement, Action, Do, If, Case, Repeat, Next, Quit, Return, Abort, arm, Otherwise, nothing_else, otherwise, Statements, no_statements, ◌▹◌, Arms, no_arms, ◌⊳◌}
-use Rattle.p8_instr.specs.declared.op.Op.{Op}
-use Rattle.p8_instr.specs.declared.operands.Operands.TheVariants.{Offset}
-use Rattle.p8_instr.specs.Reading.{bare, offset_size}
-use Rattle.p8_instr.specs.Spelling.{spelled}
-use Rattle.p8_instr.specs.Table.{rows, operands_of}
+use Rattle.p8_bytecode.specs.declared.op.Op.{Op}
+use Rattle.p8_bytecode.specs.declared.operands.Operands.TheVariants.{Offset}
+use Rattle.p8_bytecode.specs.Reading.{bare, offset_size}
+use Rattle.p8_bytecode.specs.Spelling.{spelled}
+use Rattle.p8_bytecode.specs.Table.{rows, operands_of}
 use Rattle.p8_kinds.specs.declared.name_kinds.NameKind.{NameKind}
 use Rattle.p8_kinds.specs.declared.name_kinds.NameKind.TheVariants as kinds
 use Rattle.p8_words.specs.Operators.{or_zero}
@@ -515,6 +515,7 @@ module _ (f g : ℕ → Bool) (more : (k : ℕ) → f k ≡ true → g k ≡ tru
       form-related : (place : Place) (form : Form) → Related [] (value_of_form (widened n f) place form) (value_of_form (widened n g) place form)
       form-related place (Number v) = number-related v
       form-related place (Str letters) = texts place _
+      form-related place (Strings es) = texts place _
       form-related place Here = nothings
       form-related place (Var (Named name no_index q)) = name-related n name (n.kind name)
       form-related place (Var (Named name (index e) q)) = both (value-related e) (same-one _)

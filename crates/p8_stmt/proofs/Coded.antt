@@ -5,7 +5,7 @@ use Rattle.std.proofs.lemmas.Bool.Decides.{nat_tests}
 use Rattle.p8_tree.specs.declared.places.Place.{Place}
 use Rattle.p8_tree.specs.Sources.{MethodTree}
 use Rattle.p8_tree.specs.Statements.{Statements}
-use Rattle.p8_instr.specs.declared.op.Op.{Op}
+use Rattle.p8_bytecode.specs.declared.op.Op.{Op}
 use Rattle.p8_tree.specs.declared.faults.Fault.{Fault}
 use Rattle.p8_tree.specs.Faults.{IsFirstFault}
 use Rattle.p8_tree.proofs.Firsts.{IsFirstFault-along}
@@ -18,7 +18,7 @@ use Rattle.p8_stmt.specs.Methods.{longs_in, most_longs, most_held, AreResolved, 
 use Rattle.p8_stmt.specs.declared.code.MethodCode.{MethodCode}
 use Rattle.p8_stmt.specs.Spelled.{placed}
 use Rattle.p8_gen.specs.Uses.{line_of, use_of}
-use Rattle.p8_instr.specs.Spelling.{spelled}
+use Rattle.p8_bytecode.specs.Spelling.{spelled}
 use Rattle.p8_stmt.specs.Telling.{faults_of}
 use Rattle.p8_stmt.proofs.Telling.{to_fault, from_fault}
 use Rattle.p8_stmt.proofs.Whole.{method_whole}

@@ -18,7 +18,7 @@ use Rattle.p8_tree.specs.declared.statements.Loop as loop
 use Rattle.p8_tree.specs.Expressions.{Tree, node, Trees, no_trees, ◌▷◌, Item, Items, no_items, ◌▸◌, single, range}
 use Rattle.p8_tree.specs.Statements.{If, Case, Arm, arm, Arms, no_arms, ◌⊳◌}
 use Rattle.p8_tree.specs.Views.{tree_of, form_of, call_of, trees_of, trees_after, item_of, items_of, items_after, course_of, action_of, arm_of, arms_of, statements_of}
-use Rattle.p8_tree.specs.Bridges.{boxed_index, other_body, built_is, look_is, if_is, case_is, repeat_is, trees_of-push, items_of-push, statements_of-push, arms_of-push}
+use Rattle.p8_tree.specs.Bridges.{boxed_index, other_body, strings_is, built_is, look_is, if_is, case_is, repeat_is, trees_of-push, items_of-push, statements_of-push, arms_of-push}
 use Rattle.p8_kinds.proofs.ValueRows.{call_form}
 use Rattle.p8_gen.specs.declared.expressions.BuiltForm.TheVariants as built_form
 use Rattle.p8_gen.specs.Names.{Names}
@@ -120,6 +120,9 @@ module _ (n : Names) where
 
   pub alone_of_call : (place : Place) (x : call.Call) → held_by_call n (call_of x) ≡ held_alone n (node place (call_of x))
   alone_of_call place x = ap (held_by_call n) (call_form x) ∙ sym (ap (λ f. held_alone n (node place f)) (call_form x))
+
+  pub held_of_strings : (v : Vec expr.Expr Global) → 1 ≡ held_by n (form_of (kind_case.Strings v))
+  held_of_strings v = sym (ap (held_by n) (strings_is v))
 
   pub held_of_built : (c : ℕ) (v : Vec expr.Expr Global) → max 1 (held_by_built n c (trees_of v.items)) ≡ held_by n (form_of (kind_case.Built c v))
   held_of_built c v = sym (ap (held_by n) (built_is c v))

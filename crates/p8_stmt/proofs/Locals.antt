@@ -5,8 +5,8 @@ use Rattle.std.proofs.lemmas.List.{take_more, take_all, length-append, map-appen
 use Rattle.p8_tree.specs.declared.sources.VarItem.{VarItem}
 use Rattle.p8_tree.specs.Sources.{Declared}
 use Rattle.p8_tree.specs.Views.{declared_of, tree_of}
-use Rattle.p8_instr.specs.declared.op.Op.{Op}
-use Rattle.p8_instr.specs.Spelling.{spelled}
+use Rattle.p8_bytecode.specs.declared.op.Op.{Op}
+use Rattle.p8_bytecode.specs.Spelling.{spelled}
 use Rattle.p8_kinds.specs.Meanings.{Setting}
 use Rattle.p8_stmt.specs.Cutting.{cut_longs}
 use Rattle.p8_stmt.specs.Methods.{count_in, longs_in}

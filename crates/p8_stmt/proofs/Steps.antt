@@ -1,11 +1,11 @@
 -- How long bytecodes are that jump: their offset has one byte or two, and the rest doesn't depend on it.
 use Rattle.std.proofs.Common.{◌≡◌, ℕ, suc, ap, ◌∙◌, ◌+◌, ◌*◌, ◌<◌, ◌≤◌, ◌%◌, ◌==◌, ◌&&◌, nat_lt, Bool, true, false, if◌then◌else◌, List, [], Option, Some, None, refl, arith, length, length-append}
 use Rattle.std.proofs.lemmas.Bool.Decides.{nat_tests}
-use Rattle.p8_instr.specs.declared.op.Op.{Op}
-use Rattle.p8_instr.specs.declared.operands.Operands.TheVariants.{Offset, ShortVariable, Variable as VariableBytes}
-use Rattle.p8_instr.specs.Reading.{bare, offset_size, has_base, changes_variable}
-use Rattle.p8_instr.specs.Spelling.{spelled, operand_bytes, effect_bytes, offset_bytes, place_bytes, has_long_place}
-use Rattle.p8_instr.specs.Table.{rows, operands_of, is_step}
+use Rattle.p8_bytecode.specs.declared.op.Op.{Op}
+use Rattle.p8_bytecode.specs.declared.operands.Operands.TheVariants.{Offset, ShortVariable, Variable as VariableBytes}
+use Rattle.p8_bytecode.specs.Reading.{bare, offset_size, has_base, changes_variable}
+use Rattle.p8_bytecode.specs.Spelling.{spelled, operand_bytes, effect_bytes, offset_bytes, place_bytes, has_long_place}
+use Rattle.p8_bytecode.specs.Table.{rows, operands_of, is_step}
 use Rattle.p8_tree.specs.Expressions.{Tree}
 use Rattle.p8_gen.specs.Variables.{Base, Pushed, OfObject, OfVariables, OfFrame, Home, memory_op, short_bits, short_or_long, is_short, base_bits, Using}
 use Rattle.p8_gen.specs.Statements.{step_effect}

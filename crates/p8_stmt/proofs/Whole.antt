@@ -4,7 +4,7 @@ use Rattle.p8_tree.specs.declared.places.Place.{Place}
 use Rattle.p8_tree.specs.Expressions.{Tree, Items, no_items, ◌▸◌, single, range}
 use Rattle.p8_tree.specs.Statements.{Forever, Count, Before, After, From, Statement, statement, Action, Do, If, Case, Repeat, Next, Quit, Return, Abort, arm, Otherwise, nothing_else, otherwise, Statements, no_statements, ◌▹◌, Arms, no_arms, ◌⊳◌}
 use Rattle.p8_tree.specs.Proper.{IfThere, IsProperExpression, IsCondition, AreProperTests, IsProperStatement, IsProperAction, AreProperArms, AreProperChoices, IsProperOtherwise, AreProperStatements}
-use Rattle.p8_instr.specs.Table.{rows}
+use Rattle.p8_bytecode.specs.Table.{rows}
 use Rattle.p8_tree.specs.declared.faults.Fault.{Fault}
 use Rattle.p8_kinds.specs.Environments.{Environment, kind_in}
 use Rattle.p8_kinds.specs.Misuses.{MisuseInOption, MisuseInItems, MisuseInStatements, MisuseInStatement, MisuseInAction, MisuseInArms, MisuseInOtherwise}

@@ -14,7 +14,7 @@ use Rattle.p8_kinds.specs.Meanings.{Setting}
 use Rattle.p8_kinds.specs.Values.{value}
 use Rattle.p8_kinds.specs.Environments.{Environment, kind_in}
 use Rattle.p8_kinds.specs.Misuses.{MisuseInStatements}
-use Rattle.p8_instr.specs.Spelling.{spelled}
+use Rattle.p8_bytecode.specs.Spelling.{spelled}
 use Rattle.p8_gen.specs.Names.{Names}
 use Rattle.p8_gen.specs.Operations.{HaveBytes}
 use Rattle.p8_gen.specs.Pieces.{Written}

@@ -1,8 +1,8 @@
 -- Where bytecodes begin among their bytes: internal.
 use Rattle.std.specs.Prelude.{◌≡◌, ℕ, ◌+◌, List, [], ◌∷◌, length, flat_map, take}
 use Rattle.p8_tree.specs.declared.places.Place.{Place}
-use Rattle.p8_instr.specs.declared.op.Op.{Op}
-use Rattle.p8_instr.specs.Spelling.{spelled}
+use Rattle.p8_bytecode.specs.declared.op.Op.{Op}
+use Rattle.p8_bytecode.specs.Spelling.{spelled}
 use Rattle.p8_stmt.specs.declared.spelling.Spelled.{Spelled}
 
 -- where each bytecode begins, after so many bytes

@@ -1,7 +1,7 @@
 // The code of a method.
 ghost use Rattle.std.specs.Prelude.{◌≡◌, ◌*◌, ◌<◌, map, flat_map, IfOk, IfErr, OnOk, All};
 ghost use Rattle.p8_tree.specs.Views.{method_of, statements_of};
-ghost use Rattle.p8_instr.specs.Spelling.{spelled};
+ghost use Rattle.p8_bytecode.specs.Spelling.{spelled};
 ghost use Rattle.p8_tree.specs.declared.faults.Fault.{Fault};
 ghost use Rattle.p8_tree.specs.Faults.{IsFirstFault, IfRefused};
 ghost use Rattle.p8_gen.specs.Methods as methods;

@@ -37,6 +37,7 @@ pub(crate) fn held(coder: &Coder<'_>, expr: &Expr) -> u16
     match &expr.kind {
         ExprKind::Number(_) => 1,
         ExprKind::Str(_) => 1,
+        ExprKind::Strings(_) => 1,
         ExprKind::Here => 1,
         ExprKind::Var(variable) => held_by_naming(coder, variable).max(1),
         ExprKind::Call(call) => held_by_call(coder, call).max(1),

@@ -1,13 +1,13 @@
 // The bytes of a method, and where texts are used among them.
 ghost use Rattle.std.specs.Prelude.{◌≡◌, ◌++◌, [], ◌∷◌, List, length, map, flat_map, take, IfOk, OnOk, All};
-ghost use Rattle.p8_instr.specs.declared.op.Op.{Op};
-ghost use Rattle.p8_instr.specs.Spelling.{spelled};
+ghost use Rattle.p8_bytecode.specs.declared.op.Op.{Op};
+ghost use Rattle.p8_bytecode.specs.Spelling.{spelled};
 ghost use Rattle.p8_gen.specs.Operations.{IsWhole};
 ghost use Rattle.p8_gen.specs.Uses.{use_of};
 ghost use Rattle.p8_stmt.specs.Spelled.{begins_of, placed, IsSpelled};
 
+use p8_bytecode::{Op, put_op};
 use p8_gen::StringUse;
-use p8_instr::{Op, put_op};
 use p8_tree::List;
 use p8_words::NoMemory;
 use std::alloc::{AllocError, Global};

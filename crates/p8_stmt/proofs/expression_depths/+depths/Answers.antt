@@ -6,7 +6,7 @@ use Rattle.p8_tree.specs.declared.expressions.Call.{out-Call}
 use Rattle.p8_gen.specs.Depths.{over, held, held_by, held_by_index, held_by_trees, held_by_items, held_by_built, held_by_arguments}
 use Rattle.p8_gen.specs.Scopes.{names_of}
 use Rattle.p8_stmt.specs.Cutting.{cut}
-use Rattle.p8_stmt.proofs.Depths.{cut_one, cut_max, cut_look, cut_over, cut_sum, most_next, trees_next, items_next, held_of_call, held_of_built, held_of_look, call_held, arguments_of_call, built_constant, built_plain}
+use Rattle.p8_stmt.proofs.Depths.{cut_one, cut_max, cut_look, cut_over, cut_sum, most_next, trees_next, items_next, held_of_call, held_of_strings, held_of_built, held_of_look, call_held, arguments_of_call, built_constant, built_plain}
 use Rattle.p8_stmt.proofs.expression_depths.+depths.Goals as goal
 
 pub held_by_items-loop-item-preserved : goal.held_by_items-loop-item-preserved
@@ -42,6 +42,11 @@ held-returns-in-Call t c =
     let n = names_of c.args.coder.now in
     c.max-in-Call.ensures ∙ ap (λ k. max k 1) c.held_by_call.ensures ∙ cut_one _
     ∙ ap cut (held_of_call n c.in-Call.call ∙ sym (ap (λ k. held_by n (form_of k)) c.in-Call.is))
+
+pub held-returns-in-Strings : goal.held-returns-in-Strings
+held-returns-in-Strings t c =
+    let n = names_of c.args.coder.now in
+    ap cut (held_of_strings n c.in-Strings.field-0 ∙ sym (ap (λ k. held_by n (form_of k)) c.in-Strings.is))
 
 pub held-returns-in-Built : goal.held-returns-in-Built
 held-returns-in-Built t c =

@@ -1,5 +1,5 @@
 use Rattle.std.proofs.Common.{◌≡◌, List, take, map}
-use Rattle.p8_instr.specs.declared.op.Op.{Op}
+use Rattle.p8_bytecode.specs.declared.op.Op.{Op}
 use Rattle.p8_gen.specs.Uses.{use_of}
 use Rattle.p8_stmt.specs.Spelled.{placed, IsSpelled}
 use Rattle.p8_stmt.proofs.spelling.place_uses.Given as goal

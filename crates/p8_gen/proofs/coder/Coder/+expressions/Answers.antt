@@ -12,7 +12,7 @@ use Rattle.p8_gen.specs.Scopes.{names_of}
 use Rattle.p8_gen.specs.Views.{operation_of}
 use Rattle.p8_gen.specs.Walking.{call_piece, looked}
 use Rattle.p8_gen.specs.Writing.{Stands}
-use Rattle.p8_gen.proofs.Walks.{Runs, values_next, items_next, looked_end, looked_jumps, looked_keeps, memory_is, register_is, variable_moved, named_is, built_new_cog, built_told_cog, built_plain, value_of_call, arguments_of_call, value_of_built, value_of_look}
+use Rattle.p8_gen.proofs.Walks.{Runs, values_next, items_next, looked_end, looked_jumps, looked_keeps, memory_is, register_is, variable_moved, named_is, built_new_cog, built_told_cog, built_plain, value_of_call, arguments_of_call, value_of_strings, value_of_built, value_of_look}
 use Rattle.p8_gen.proofs.coder.Coder.+expressions.Goals as goal
 
 pub arguments-returns-in-Call : goal.arguments-returns-in-Call
@@ -107,6 +107,12 @@ value-returns-in-Call t c =
     let n = names_of c.args.self.now in
     let place = c.args.expr.now.place in
     subst (Runs c.args.out.now c.call.result c.call.new.out) (value_of_call n place c.in-Call.call ∙ sym (ap (λ k. value_of_form n place (form_of k)) c.in-Call.is)) c.call.ensures
+
+pub value-returns-in-Strings : goal.value-returns-in-Strings
+value-returns-in-Strings t c =
+    let n = names_of c.args.self.now in
+    let place = c.args.expr.now.place in
+    subst (Runs c.args.out.now c.text-in-Strings.result c.text-in-Strings.new.self) (value_of_strings n place c.in-Strings.field-0 ∙ sym (ap (λ k. value_of_form n place (form_of k)) c.in-Strings.is)) c.text-in-Strings.ensures
 
 pub value-returns-in-Built : goal.value-returns-in-Built
 value-returns-in-Built t c =

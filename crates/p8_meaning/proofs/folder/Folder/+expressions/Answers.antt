@@ -3,7 +3,7 @@ use Rattle.p8_tree.specs.Views.{tree_of, items_of, item_of, form_of}
 use Rattle.p8_meaning.specs.Folding.{tree_with, item_with, items_with}
 use Rattle.p8_meaning.specs.Known.{number_by, shorter_known}
 use Rattle.p8_meaning.specs.Copies.{constants_of, with_number}
-use Rattle.p8_meaning.proofs.Trees.{reduced-is, trees-next, items-next, call-is, copied-as, known-as, built-form, look-form, call-known}
+use Rattle.p8_meaning.proofs.Trees.{reduced-is, trees-next, items-next, call-is, copied-as, known-as, strings-form, strings-known, built-form, look-form, call-known}
 use Rattle.p8_meaning.proofs.folder.Folder.+expressions.Goals as goal
 
 pub expression-returns-clause-tree : goal.expression-returns-clause-tree
@@ -31,6 +31,17 @@ items-loop-item-preserved t c =
 pub form-returns-in_ok-call-in-Call-clause-known : goal.form-returns-in_ok-call-in-Call-clause-known
 form-returns-in_ok-call-in-Call-clause-known t c =
     known-as c.new-in-Call.result _ _ (call-known c.args.numbers (constants_of c.args.self.now) c.args.place c.args.kind.now c.in-Call.call c.in-Call.is) c.new-in-Call.ensures.known
+
+pub form-returns-in_ok-items-in-Strings-clause-tree : goal.form-returns-in_ok-items-in-Strings-clause-tree
+form-returns-in_ok-items-in-Strings-clause-tree t c =
+    copied-as c.strings.result _ _
+    (strings-form c.args.numbers (constants_of c.args.self.now) c.args.place c.args.kind.now c.in-Strings.items c.in_ok-items-in-Strings.items c.deref.result.now c.in-Strings.is
+    c.deref.ensures.value c.in_ok-items-in-Strings.ensures)
+    c.strings.ensures.tree
+
+pub form-returns-in_ok-items-in-Strings-clause-known : goal.form-returns-in_ok-items-in-Strings-clause-known
+form-returns-in_ok-items-in-Strings-clause-known t c =
+    known-as c.strings.result _ _ (strings-known c.args.numbers (constants_of c.args.self.now) c.args.place c.args.kind.now c.in-Strings.items c.in-Strings.is) c.strings.ensures.known
 
 pub form-returns-in_ok-arguments-in-Built-clause-tree : goal.form-returns-in_ok-arguments-in-Built-clause-tree
 form-returns-in_ok-arguments-in-Built-clause-tree t c =
