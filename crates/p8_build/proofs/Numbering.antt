@@ -11,8 +11,10 @@ use Rattle.std.proofs.lemmas.Bool.{cases_Bool}
 use Rattle.std.proofs.lemmas.Bool.Decides.{nat_tests}
 use Rattle.p8_tree.specs.declared.places.Place.{Place}
 use Rattle.p8_tree.specs.Faults.{is_same_place}
+use Rattle.p8_tree.specs.Expressions.{Form}
 use Rattle.p8_build.specs.declared.string_texts.StringText.{StringText}
 use Rattle.p8_constants.proofs.Listed.{rest_is_empty}
+use Rattle.p8_build.specs.Strings.{Texts}
 use Rattle.p8_build.specs.Numbers.{text_of, place_cmp, at_place, number_in}
 
 or_none : (o : Option ℕ) → o ≡ option_or o None
@@ -66,7 +68,7 @@ entered_new m n q p number h free =
     ]
 
 -- one text more
-pub number_more : (a b : Option ℕ) (i : ℕ) (x : Place × List ℕ) (rest : List (Place × List ℕ)) (p : Place) → b ≡ option_or a (if is_same_place x.0 p then Some i else None) → option_or b (number_in (i + 1) rest p) ≡ option_or a (number_in i (x ∷ rest) p)
+pub number_more : (a b : Option ℕ) (i : ℕ) (x : Place × Form) (rest : Texts) (p : Place) → b ≡ option_or a (if is_same_place x.0 p then Some i else None) → option_or b (number_in (i + 1) rest p) ≡ option_or a (number_in i (x ∷ rest) p)
 number_more a b i x rest p e = ap (λ o. option_or o (number_in (i + 1) rest p)) e ∙ by a (is_same_place x.0 p)
   where
     by : (o : Option ℕ) (same : Bool) → option_or (option_or o (if same then Some i else None)) (number_in (i + 1) rest p) ≡ option_or o (if same then Some i else number_in (i + 1) rest p)

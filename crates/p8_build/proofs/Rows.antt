@@ -1,8 +1,10 @@
 -- The texts of trees, items, statements and arms one after the other, and of forms as the code has them.
-use Rattle.std.proofs.Common.{◌≡◌, ℕ, ◌+◌, ◌<◌, List, [], ◌++◌, length, take, get_or, Option, Some, None, Vec, sym, ap, ap₂, ◌∙◌, append_assoc}
+use Rattle.std.proofs.Common.{◌≡◌, ℕ, ◌+◌, ◌<◌, List, [], ◌∷◌, ◌++◌, length, take, get_or, Option, Some, None, Vec, sym, ap, ap₂, ◌∙◌, append_assoc}
 use Rattle.std.specs.declared.alloc.Global.{Global}
 use Rattle.std.proofs.lemmas.List.{take_more}
+use Rattle.p8_tree.specs.declared.places.Place.{Place}
 use Rattle.p8_tree.specs.declared.expressions.Expr as expr
+use Rattle.p8_tree.specs.declared.expressions.ExprKind as kind
 use Rattle.p8_tree.specs.declared.expressions.Item as item
 use Rattle.p8_tree.specs.declared.statements.Stmt as stmt
 use Rattle.p8_tree.specs.declared.statements.Arm as code_arm
@@ -10,9 +12,14 @@ use Rattle.p8_tree.specs.declared.statements.Arm.{out-Arm, roll-out-Arm}
 use Rattle.p8_tree.specs.declared.statements.StmtKind as stmt_kind
 use Rattle.p8_tree.specs.declared.statements.StmtKind.TheVariants as stmt_case
 use Rattle.p8_tree.specs.declared.statements.Loop as loop
-use Rattle.p8_tree.specs.Views.{tree_of, trees_of, item_of, items_of, course_of, action_of, statement_of, statements_of, arm_of, arms_of}
+use Rattle.p8_tree.specs.Expressions.{Form}
+use Rattle.p8_tree.specs.Views.{tree_of, form_of, trees_of, item_of, items_of, course_of, action_of, statement_of, statements_of, arm_of, arms_of}
 use Rattle.p8_tree.specs.Bridges.{trees_of-push, items_of-push, statements_of-push, arms_of-push, other_body, arm_is, if_is, case_is, repeat_is}
-use Rattle.p8_build.specs.Strings.{Texts, in_tree, in_item, in_trees, in_items, before_body, behind_body, strings_in, in_statement, in_action, in_arms, in_arm, in_otherwise}
+use Rattle.p8_build.specs.Strings.{Texts, in_tree, in_form, in_item, in_trees, in_items, before_body, behind_body, strings_in, in_statement, in_action, in_arms, in_arm, in_otherwise}
+
+-- a STRING, as the code has it
+pub one_string : (place : Place) (k : kind.ExprKind) (f : Form) → form_of k ≡ f → (place, f) ∷ [] ≡ in_form place f → (place, form_of k) ∷ [] ≡ in_form place (form_of k)
+one_string place k f is one = ap (λ (f : Form). (place, f) ∷ []) is ∙ one ∙ ap (in_form place) (sym is)
 
 pub trees_next : (xs : List expr.Expr) (i : ℕ) (d : expr.Expr) (a b : Texts) {c : Texts} → i < length xs → d ≡ get_or xs i d → b ≡ a ++ in_trees (trees_of (take i xs)) → c ≡ b ++ in_tree (tree_of d) → c ≡ a ++ in_trees (trees_of (take (i + 1) xs))
 trees_next xs i d a b lt at before now =

@@ -4,11 +4,10 @@ use Rattle.std.specs.Prelude.{IsTrue}
 use Rattle.std.specs.List.{flat_map}
 use Rattle.std.proofs.lemmas.List.{length-map}
 use Rattle.std.proofs.lemmas.Option.{same_Some, none-some}
-use Rattle.p8_tree.specs.declared.places.Place.{Place}
 use Rattle.p8_tree.specs.Sources.{MethodTree, Source}
 use Rattle.p8_tree.specs.Projects.{NamedSource}
-use Rattle.p8_instr.specs.declared.op.Op.{Op}
-use Rattle.p8_instr.specs.Spelling.{spelled}
+use Rattle.p8_bytecode.specs.declared.op.Op.{Op}
+use Rattle.p8_bytecode.specs.Spelling.{spelled}
 use Rattle.p8_tree.specs.declared.faults.Fault.{Fault}
 use Rattle.p8_tree.specs.Faults.{fault, IsFirstFault, PhaseFault, IsFirstRefusal}
 use Rattle.p8_tree.specs.declared.refusal.Refusal.TheVariants.{NoPub}
@@ -30,6 +29,7 @@ use Rattle.p8_stmt.specs.Methods.{IsCodeOf}
 use Rattle.p8_build.specs.declared.accepting.AcceptedFile.{AcceptedFile}
 use Rattle.p8_build.specs.declared.building.Accepted.{Accepted}
 use Rattle.p8_build.specs.declared.fault.PhaseRefusal.{PhaseRefusal}
+use Rattle.p8_build.specs.Strings.{Texts}
 use Rattle.p8_build.specs.Parts.{strings_of, method_part, method_parts}
 use Rattle.p8_build.specs.Files.{CompiledFile, method_names, IsCompiled, object_of}
 use Rattle.p8_build.specs.Builds.{IsFile, IsRefusal, of_image, IsImageFault, AreCompiled, objects_from, objects_of, constant_named, constant_value, clock_by}
@@ -122,7 +122,7 @@ four_times : (n : ℕ) → 4 * n % 4 ≡ 0
 four_times n = omega arith
 
 -- a method that is compiled can be started
-pub is_main : (strings : List (Place × List ℕ)) (names : Names) (m : MethodTree) (code : MethodCode) → IsCodeOf names m code → IsMain (method_part strings m code)
+pub is_main : (strings : Texts) (names : Names) (m : MethodTree) (code : MethodCode) → IsCodeOf names m code → IsMain (method_part strings m code)
 is_main strings names m code h = record {
   code = subst (λ (bytes : List ℕ). 0 < length bytes) (sym h.bytes) (code_before _ _);
   parameters = four_times (length m.params);
@@ -133,7 +133,7 @@ pub not_lacking : (b : Bool) → (IsTrue (true && not b) → ⊥) → b ≡ true
 not_lacking true h = refl
 not_lacking false h = absurd (h refl)
 
-pub main_first : (strings : List (Place × List ℕ)) (ms : List MethodTree) (codes : List MethodCode) → 0 < length ms → length codes ≡ length ms → ((m : MethodTree) (c : MethodCode) → slice_get ms 0 ≡ Some m → slice_get codes 0 ≡ Some c → IsMain (method_part strings m c)) → HasMain (method_parts strings ms codes)
+pub main_first : (strings : Texts) (ms : List MethodTree) (codes : List MethodCode) → 0 < length ms → length codes ≡ length ms → ((m : MethodTree) (c : MethodCode) → slice_get ms 0 ≡ Some m → slice_get codes 0 ≡ Some c → IsMain (method_part strings m c)) → HasMain (method_parts strings ms codes)
 main_first strings [] codes l e is = absurd (omega arith)
 main_first strings (m ∷ ms) [] l e is = absurd (omega arith)
 main_first strings (m ∷ ms) (c ∷ cs) l e is = is m c refl refl

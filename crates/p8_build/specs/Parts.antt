@@ -10,11 +10,13 @@ use Rattle.p8_tree.specs.Sources as trees
 use Rattle.p8_tree.specs.Sources.{MethodTree, Source}
 use Rattle.p8_tree.specs.Projects.{NamedSource}
 use Rattle.p8_tree.specs.Faults.{is_same_place}
+use Rattle.p8_tree.specs.Expressions.{Form, Str, Strings}
 use Rattle.p8_kinds.specs.Meanings.{Setting}
+use Rattle.p8_kinds.specs.Values.{text_of_items}
 use Rattle.p8_constants.specs.FileItems.{Item, variable, items}
 use Rattle.p8_constants.specs.Rules.{count_in}
 use Rattle.p8_names.specs.Kinds.{numbered, objects, instances}
-use Rattle.p8_build.specs.Strings.{strings_in}
+use Rattle.p8_build.specs.Strings.{Texts, strings_in}
 use Rattle.p8_image.specs.declared.parts.Variable.{Variable}
 use Rattle.p8_image.specs.declared.parts.TextUse.{TextUse}
 use Rattle.p8_image.specs.declared.parts.MethodPart.{MethodPart}
@@ -30,23 +32,29 @@ AreProper files = (i : ℕ) (f : NamedSource) → slice_get files i ≡ Some f �
 
 -- ---- texts: those of all STRINGs of a file, in the order of its methods and of their places in the source
 
-abbrev pub strings_in_method : MethodTree → List (Place × List ℕ)
+abbrev pub strings_in_method : MethodTree → Texts
 strings_in_method m = strings_in m.body
 
-abbrev pub strings_of : Source → List (Place × List ℕ)
+abbrev pub strings_of : Source → Texts
 strings_of source = flat_map strings_in_method (numbered (items source))
 
 -- which of some texts stands at a place, counted from 0
-abbrev pub text_number : List (Place × List ℕ) → Place → ℕ
+abbrev pub text_number : Texts → Place → ℕ
 text_number [] p = 0
 text_number (x ∷ xs) p = if is_same_place x.0 p then 0 else 1 + text_number xs p
 
+-- the text of a STRING by what names mean in its file, without the 0 behind it
+abbrev pub text_in : Setting → Form → List ℕ
+text_in s (Str text) = text
+text_in s (Strings es) = text_of_items s es
+text_in s form = []
+
 -- ---- methods
 
-abbrev pub use_of_text : List (Place × List ℕ) → StringUse → TextUse
+abbrev pub use_of_text : Texts → StringUse → TextUse
 use_of_text strings u = record { at = u.at; text = text_number strings u.place }
 
-abbrev pub method_part : List (Place × List ℕ) → MethodTree → MethodCode → MethodPart
+abbrev pub method_part : Texts → MethodTree → MethodCode → MethodPart
 method_part strings m code = record {
   parameters = 4 * length m.params;
   locals = code.locals;
@@ -55,7 +63,7 @@ method_part strings m code = record {
 }
 
 -- methods with their codes, one by one
-abbrev pub method_parts : List (Place × List ℕ) → List MethodTree → List MethodCode → List MethodPart
+abbrev pub method_parts : Texts → List MethodTree → List MethodCode → List MethodPart
 method_parts strings (m ∷ ms) (code ∷ codes) = method_part strings m code ∷ method_parts strings ms codes
 method_parts strings _ _ = []
 
@@ -86,6 +94,6 @@ object_part files s source dat codes = record {
   variables = flat_map (variable_in s) (items source);
   dat = dat;
   methods = method_parts (strings_of source) (numbered (items source)) codes;
-  texts = map (λ x. x.1) (strings_of source);
+  texts = map (λ x. text_in s x.1) (strings_of source);
   instances = flat_map (instances_of files s) (objects (items source));
 }

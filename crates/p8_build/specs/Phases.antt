@@ -31,7 +31,7 @@ use Rattle.p8_build.specs.declared.accepting.AcceptedFile.{AcceptedFile}
 use Rattle.p8_build.specs.declared.fault.PhaseRefusal.{PhaseRefusal}
 use Rattle.p8_build.specs.declared.sizes.Size.{Size}
 use Rattle.p8_build.specs.declared.sizes.Size.TheVariants as size_case
-use Rattle.p8_build.specs.Parts.{data_start, strings_in_method, method_parts, variable_in, instances_of}
+use Rattle.p8_build.specs.Parts.{data_start, strings_in_method, text_in, method_parts, variable_in, instances_of}
 use Rattle.p8_build.specs.Files.{CompiledFile, IsData, IsCodeFault, IsCompiled, method_names}
 use Rattle.p8_build.specs.Builds.{IsFile, IsRefusal, IsImageFault, constant_named}
 use Rattle.p8_build.specs.Sizes.{IsSizeOf}
@@ -106,7 +106,7 @@ object_by files s xs ms dat codes = record {
   variables = flat_map (variable_in s) xs;
   dat = dat;
   methods = method_parts (flat_map strings_in_method ms) ms codes;
-  texts = map (λ x. x.1) (flat_map strings_in_method ms);
+  texts = map (λ x. text_in s x.1) (flat_map strings_in_method ms);
   instances = flat_map (instances_of files s) (objects xs);
 }
 

@@ -1,14 +1,14 @@
--- The texts of the STRINGs of a method's statements, each with the place of its STRING, in the order of the source (Propeller
+-- The STRINGs of a method's statements, each with its place, in the order of the source (Propeller
 -- Manual v1.2, "STRING" of the Spin chapter): what is assigned to stands before the value, an object's index before the
--- arguments, and a WHILE or UNTIL after a loop's body after what is in it.
-use Rattle.std.specs.Prelude.{ℕ, List, [], ◌∷◌, ◌++◌, Option, Some, None}
+-- arguments, and a WHILE or UNTIL after a loop's body after what is in it. The items of a STRING have no texts of their own.
+use Rattle.std.specs.Prelude.{List, [], ◌∷◌, ◌++◌, Option, Some, None}
 use Rattle.p8_tree.specs.declared.places.Place.{Place}
-use Rattle.p8_tree.specs.Expressions.{Tree, node, Form, Number, Str, Here, Var, Call, Unary, Binary, Assign, Change, Address, ObjectAddress, ObjConst, Built, Look, Variable, Named, Part, Memory, Register, Index, no_index, index, Bits, whole, bits, Item, single, range, Trees, no_trees, ◌▷◌, Items, no_items, ◌▸◌}
+use Rattle.p8_tree.specs.Expressions.{Tree, node, Form, Number, Str, Strings, Here, Var, Call, Unary, Binary, Assign, Change, Address, ObjectAddress, ObjConst, Built, Look, Variable, Named, Part, Memory, Register, Index, no_index, index, Bits, whole, bits, Item, single, range, Trees, no_trees, ◌▷◌, Items, no_items, ◌▸◌}
 use Rattle.p8_tree.specs.Statements.{Course, Count, Before, After, From, Statement, statement, Action, Do, If, Case, Repeat, Next, Quit, Return, Abort, Arm, arm, Otherwise, nothing_else, otherwise, Statements, no_statements, ◌▹◌, Arms, no_arms, ◌⊳◌}
 
--- texts with their places
+-- STRINGs with their places
 abbrev pub Texts : Type 0
-Texts = List (Place × List ℕ)
+Texts = List (Place × Form)
 
 -- ---- expressions
 
@@ -18,7 +18,8 @@ abbrev mutual
 
   pub in_form : Place → Form → Texts
   in_form place (Number v) = []
-  in_form place (Str text) = (place, text) ∷ []
+  in_form place (Str text) = (place, Str text) ∷ []
+  in_form place (Strings es) = (place, Strings es) ∷ []
   in_form place Here = []
   in_form place (Var v) = in_variable v
   in_form place (Call trap object i method p args) = in_index i ++ in_trees args

@@ -1,7 +1,7 @@
 // The texts of an expression. The calls go as deep as the tree is high.
-ghost use Rattle.std.specs.Prelude.{◌≡◌, ◌++◌, OnOk, option_map};
+ghost use Rattle.std.specs.Prelude.{◌≡◌, [], ◌∷◌, ◌++◌, OnOk, option_map};
 ghost use Rattle.p8_tree.specs.declared.places.Place.{Place};
-ghost use Rattle.p8_tree.specs.Views.{tree_of, variable_of, call_of, trees_of, items_of, item_of};
+ghost use Rattle.p8_tree.specs.Views.{tree_of, form_of, variable_of, call_of, trees_of, items_of, item_of};
 ghost use Rattle.p8_tree.specs.Bridges.{boxed_index};
 ghost use Rattle.p8_kinds.specs.Verdicts.{boxed_bits};
 ghost use Rattle.p8_build.specs.Strings.{in_tree, in_form, in_variable, in_index, in_bits, in_item, in_trees, in_items, in_option};
@@ -22,13 +22,8 @@ pub(crate) fn put_tree<'a>(
     match &expr.kind {
         ExprKind::Number(_) | ExprKind::Here => Ok(()),
         ExprKind::ObjConst(_, _, _) => Ok(()),
-        ExprKind::Str(text) => {
-            texts.push(StringText {
-                place: expr.place,
-                text,
-            })?;
-            Ok(())
-        }
+        ExprKind::Str(_) => put_string(expr, texts),
+        ExprKind::Strings(_) => put_string(expr, texts),
         ExprKind::Var(variable) => put_variable(variable, texts),
         ExprKind::Address(variable) => put_variable(variable, texts),
         ExprKind::Change(variable, _) => put_variable(variable, texts),
@@ -49,6 +44,17 @@ pub(crate) fn put_tree<'a>(
             put_items(items, texts)
         }
     }
+}
+
+// Puts a STRING.
+fn put_string<'a>(expr: &'a Expr, texts: &mut Vec<StringText<'a>>) -> Result<(), AllocError>
+    ensures { OnOk result (texts_of texts.new.items ≡ texts_of texts.old.items ++ (expr.now.place, form_of expr.now.kind) ∷ []) }
+{
+    texts.push(StringText {
+        place: expr.place,
+        form: &expr.kind,
+    })?;
+    Ok(())
 }
 
 #[cycle(expressions)]

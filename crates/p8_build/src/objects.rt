@@ -15,7 +15,7 @@ ghost use Rattle.p8_build.specs.Phases.{object_in};
 
 use crate::accepting::AcceptedFile;
 use crate::coding::parts_of;
-use crate::texts::{TextNumbers, copies_of, strings_of_all};
+use crate::texts::{TextNumbers, strings_of_all, texts_in};
 use p8_constants::{Item, count_value};
 use p8_image::{ObjectPart, Variable};
 use p8_kinds::Consts;
@@ -62,7 +62,7 @@ pub fn object_of_codes(
         variables: variables_of(alloc, consts, items)?,
         dat: Text::copy_of(alloc, file.dat.bytes.as_slice())?,
         methods: parts_of(alloc, methods, codes, &texts)?,
-        texts: copies_of(alloc, strings.as_slice())?,
+        texts: texts_in(alloc, consts, strings.as_slice())?,
         instances: instances_of(alloc, files, consts, items)?,
     })
 }

@@ -10,7 +10,7 @@ use p8_tree::{Arm, Loop, Method, Stmt, StmtKind};
 use p8_words::NoMemory;
 use std::alloc::{AllocError, Global};
 
-/// The texts of a method's `STRING`s with their places, in the order of the source, each as often as it stands there.
+/// The `STRING`s of a method with their places, in the order of the source.
 ///
 /// It takes time and memory in proportion to the method.
 pub fn strings_of<'a>(alloc: Global, method: &'a Method) -> Result<Vec<StringText<'a>>, NoMemory>

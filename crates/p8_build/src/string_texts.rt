@@ -1,9 +1,10 @@
-// Texts and their places.
-use p8_tree::{Place, Text};
+// STRINGs and their places.
+use p8_tree::{ExprKind, Place};
 
-/// A text of a method, and the place of its `STRING`.
+/// A `STRING` of a method, and its place.
 #[derive(Clone, Copy)]
 pub struct StringText<'a> {
     pub place: Place,
-    pub text: &'a Text,
+    /// `ExprKind::Str` or `ExprKind::Strings`.
+    pub form: &'a ExprKind,
 }

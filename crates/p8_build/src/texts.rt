@@ -1,25 +1,28 @@
 // The texts of a file, and their numbers.
-ghost use Rattle.std.specs.Prelude.{◌≡◌, ◌+◌, map, OnOk, IfOk, if◌then◌else◌};
+ghost use Rattle.std.specs.Prelude.{◌≡◌, ◌+◌, [], map, OnOk, IfOk, if◌then◌else◌};
 ghost use Rattle.std.specs.List.{flat_map};
 ghost use Rattle.std.specs.Option.{option_or};
 ghost use Rattle.p8_tree.specs.declared.places.Place.{Place as PlaceOf};
-ghost use Rattle.p8_tree.specs.Views.{method_of};
+ghost use Rattle.p8_tree.specs.Views.{form_of, method_of, trees_of};
 ghost use Rattle.p8_tree.specs.Faults.{is_same_place};
-ghost use Rattle.p8_build.specs.Parts.{strings_in_method};
+ghost use Rattle.p8_kinds.specs.ConstantEntries.{setting_of};
+ghost use Rattle.p8_kinds.specs.Values.{text_of_items};
+ghost use Rattle.p8_build.specs.Parts.{strings_in_method, text_in};
 ghost use Rattle.p8_build.specs.Numbers.{text_of, at_place, number_by, AreNumbers, use_by};
 
 use crate::statements::strings_of;
 use crate::string_texts::StringText;
 use p8_gen::StringUse;
 use p8_image::TextUse;
-use p8_tree::{List, Method, Place, Text};
+use p8_kinds::{Consts, put_text};
+use p8_tree::{Expr, ExprKind, List, Method, Place, Text};
 use p8_words::NoMemory;
 use std::alloc::{AllocError, Global};
 use std::collections::BTreeMap;
 
 type Places = BTreeMap<(u32, u32), u32>;
 
-/// The texts of some methods, in the order of the methods and of their places in the source.
+/// The `STRING`s of some methods, in the order of the methods and of their places in the source.
 pub(crate) fn strings_of_all<'a>(
     alloc: Global,
     methods: &[&'a Method],
@@ -34,15 +37,51 @@ pub(crate) fn strings_of_all<'a>(
     Ok(List::from_vec(all))
 }
 
-/// Copies of texts, in their order.
-pub(crate) fn copies_of(alloc: Global, strings: &[StringText<'_>]) -> Result<List<Text>, AllocError>
-    ensures { IfOk result (λ texts. texts ≡ map (λ x. (text_of x).1) strings.now) }
+/// The texts of `STRING`s, in their order, by the constants of their file.
+pub(crate) fn texts_in(
+    alloc: Global,
+    consts: &Consts,
+    strings: &[StringText<'_>],
+) -> Result<List<Text>, AllocError>
+    ensures { IfOk result (λ texts. texts ≡ map (λ x. text_in (setting_of consts.now) (text_of x).1) strings.now) }
 {
     let mut texts = List::new(alloc);
     for string in strings {
-        texts.push(Text::copy_of(alloc, string.text.as_slice())?)?;
+        texts.push(text_in(alloc, consts, string.form)?)?;
     }
     Ok(texts)
+}
+
+/// The text of a `STRING`, without the 0 behind it. No other form has one.
+fn text_in(alloc: Global, consts: &Consts, form: &ExprKind) -> Result<Text, AllocError>
+    ensures { IfOk result (λ text. text ≡ text_in (setting_of consts.now) (form_of form.now)) }
+{
+    match form {
+        ExprKind::Str(text) => Text::copy_of(alloc, text.as_slice()),
+        ExprKind::Strings(items) => text_of_items(alloc, consts, items),
+        ExprKind::Call(_) => Ok(no_text(alloc)),
+        ExprKind::Number(_) | ExprKind::Here | ExprKind::Var(_) => Ok(no_text(alloc)),
+        ExprKind::Unary(_, _) | ExprKind::Binary(_, _, _) => Ok(no_text(alloc)),
+        ExprKind::Assign(_, _, _) | ExprKind::Change(_, _) => Ok(no_text(alloc)),
+        ExprKind::Address(_) | ExprKind::ObjectAddress(_) => Ok(no_text(alloc)),
+        ExprKind::ObjConst(_, _, _) => Ok(no_text(alloc)),
+        ExprKind::Built(_, _) | ExprKind::Look(_, _, _) => Ok(no_text(alloc)),
+    }
+}
+
+/// The text of a `STRING` with these items.
+fn text_of_items(alloc: Global, consts: &Consts, items: &[Expr]) -> Result<Text, AllocError>
+    ensures { IfOk result (λ text. text ≡ text_of_items (setting_of consts.now) (trees_of items.now)) }
+{
+    let mut text = Vec::new(alloc);
+    put_text(items, consts, &mut text)?;
+    Ok(Text::from_vec(text))
+}
+
+fn no_text(alloc: Global) -> Text
+    ensures { result ≡ [] }
+{
+    Text::from_vec(Vec::new(alloc))
 }
 
 /// The numbers of texts by their places, counted from 0. Of two at one place the first counts.

@@ -4,8 +4,8 @@ use Rattle.std.proofs.lemmas.List.{append-nil, length-drop, length-set, length-t
 use Rattle.std.proofs.Math.Seq.{take-append_seam, drop-append_seam}
 use Rattle.std.specs.Prelude.{◌/◌, ◌%◌, min, option_map, slice_index, slice_set}
 use Rattle.std.specs.Option.{option_map_or}
-use Rattle.p8_instr.specs.Reading.{coded}
-use Rattle.p8_instr.specs.Table.{operands_of}
+use Rattle.p8_bytecode.specs.Reading.{coded}
+use Rattle.p8_bytecode.specs.Table.{operands_of}
 use Rattle.p8_image.specs.declared.parts.MethodPart.{MethodPart}
 use Rattle.p8_image.specs.declared.parts.ObjectPart.{ObjectPart}
 use Rattle.p8_image.specs.declared.parts.TextUse.{TextUse}

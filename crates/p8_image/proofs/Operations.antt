@@ -3,9 +3,9 @@ use Rattle.std.proofs.Common.{◌≡◌, ◌∙◌, ap, ap₂, refl, arith, ℕ,
 use Rattle.std.proofs.Math.Seq.{take-append_seam, drop-append_seam}
 use Rattle.std.specs.List.{All, flat_map}
 use Rattle.std.specs.Option.{option_map_or}
-use Rattle.p8_instr.specs.declared.op.Op.{Op}
-use Rattle.p8_instr.specs.Spelling.{IsOp, spelled}
-use Rattle.p8_instr.proofs.ReadBack.{read-back}
+use Rattle.p8_bytecode.specs.declared.op.Op.{Op}
+use Rattle.p8_bytecode.specs.Spelling.{IsOp, spelled}
+use Rattle.p8_bytecode.proofs.ReadBack.{read-back}
 use Rattle.p8_image.specs.Listing.{line_size, pieces_of}
 use Rattle.p8_image.proofs.Cutting.{pieces-step}
 

@@ -5,7 +5,8 @@ ghost use Rattle.p8_instr.specs.Numerals.{hex};
 ghost use Rattle.p8_image.specs.Listing.{line_size as line_size_of, code_line, code_lines};
 
 use crate::text::{behind, further, push_place};
-use p8_instr::{byte_digits, push_text, take_op};
+use p8_bytecode::take_op;
+use p8_instr::{byte_digits, push_text};
 use p8_words::NoMemory;
 
 /// Appends bytes in digits, with a space before each.

@@ -14,10 +14,10 @@ use Rattle.p8_access.specs.Courses.{Course}
 use Rattle.p8_access.specs.Lives.{Entered}
 use Rattle.p8_access.specs.Timing.{Goes, played}
 use Rattle.p8_access.specs.Replays.{after, step}
-use Rattle.p8_instr.specs.declared.op.Op.{Op}
-use Rattle.p8_instr.specs.Reading.{op_at, op_in}
-use Rattle.p8_instr.specs.Spelling.{spelled, IsOp}
-use Rattle.p8_instr.proofs.ReadBack.{read-back}
+use Rattle.p8_bytecode.specs.declared.op.Op.{Op}
+use Rattle.p8_bytecode.specs.Reading.{op_at, op_in}
+use Rattle.p8_bytecode.specs.Spelling.{spelled, IsOp}
+use Rattle.p8_bytecode.proofs.ReadBack.{read-back}
 use Rattle.p8_bcog.specs.declared.state.State.{State}
 use Rattle.p8_bcog.specs.Bytecodes.{bytecode, clocks, does_found, row}
 use Rattle.p8_bcog.specs.Code.{code_of, fetched}

@@ -3,11 +3,10 @@ use Rattle.std.proofs.Common.{◌≡◌, refl, sym, ap, ap₂, ◌∙◌, subst,
 use Rattle.std.specs.Prelude.{map, flat_map, drop, take}
 use Rattle.std.proofs.lemmas.Bool.{cases_lt}
 use Rattle.std.proofs.lemmas.Option.{none-some, same_Some}
-use Rattle.p8_tree.specs.declared.places.Place.{Place}
 use Rattle.p8_tree.specs.Projects.{NamedSource}
 use Rattle.p8_tree.specs.Sources.{MethodTree}
-use Rattle.p8_instr.specs.declared.op.Op.{Op}
-use Rattle.p8_instr.specs.Spelling.{spelled}
+use Rattle.p8_bytecode.specs.declared.op.Op.{Op}
+use Rattle.p8_bytecode.specs.Spelling.{spelled}
 use Rattle.p8_kinds.specs.declared.children.Children.{Children}
 use Rattle.p8_constants.specs.FileItems.{items}
 use Rattle.p8_names.specs.Kinds.{numbered}
@@ -19,6 +18,7 @@ use Rattle.p8_image.specs.declared.parts.MethodPart.{MethodPart}
 use Rattle.p8_image.specs.declared.parts.ObjectPart.{ObjectPart}
 use Rattle.p8_image.specs.Layout.{total, code_size, codes_offset, code_offset, size_of, places_from, bases_of, header_by}
 use Rattle.p8_image.specs.Projects.{FitsHub}
+use Rattle.p8_build.specs.Strings.{Texts}
 use Rattle.p8_build.specs.Parts.{method_parts, strings_of}
 use Rattle.p8_build.specs.Files.{CompiledFile}
 use Rattle.p8_build.specs.Builds.{AreCompiled, objects_from, objects_of, IsBuilt}
@@ -146,7 +146,7 @@ cover-objects file base (x ∷ objects) (cs ∷ others) are room (suc i) object 
 record AreOfCodes (object : ObjectPart) (codes : List MethodCode) : Type 0 where
   bytes : map (λ (m : MethodPart). m.code) object.methods ≡ map (λ (c : MethodCode). c.bytes) codes
 
-parts-bytes : (strings : List (Place × List ℕ)) (ms : List MethodTree) (codes : List MethodCode) → length codes ≡ length ms → map (λ (m : MethodPart). m.code) (method_parts strings ms codes) ≡ map (λ (c : MethodCode). c.bytes) codes
+parts-bytes : (strings : Texts) (ms : List MethodTree) (codes : List MethodCode) → length codes ≡ length ms → map (λ (m : MethodPart). m.code) (method_parts strings ms codes) ≡ map (λ (c : MethodCode). c.bytes) codes
 parts-bytes strings [] [] is = refl
 parts-bytes strings (m ∷ ms) [] is = refl
 parts-bytes strings [] (code ∷ codes) is = absurd (omega (arith, is))

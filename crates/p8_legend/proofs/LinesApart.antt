@@ -2,11 +2,10 @@
 use Rattle.std.proofs.Common.{◌≡◌, refl, sym, ap, ◌∙◌, subst, arith, ℕ, zero, suc, ◌+◌, ◌<◌, ◌≤◌, ◌==◌, Bool, List, [], ◌∷◌, ◌++◌, length, length-append, slice_get, Some, get_or}
 use Rattle.std.specs.Prelude.{map, flat_map, drop}
 use Rattle.std.proofs.lemmas.Option.{none-some, same_Some, slice_get_within}
-use Rattle.p8_tree.specs.declared.places.Place.{Place}
 use Rattle.p8_tree.specs.Projects.{NamedSource}
 use Rattle.p8_tree.specs.Sources.{MethodTree, Source}
-use Rattle.p8_instr.specs.declared.op.Op.{Op}
-use Rattle.p8_instr.specs.Spelling.{spelled}
+use Rattle.p8_bytecode.specs.declared.op.Op.{Op}
+use Rattle.p8_bytecode.specs.Spelling.{spelled}
 use Rattle.p8_kinds.specs.declared.children.Children.{Children}
 use Rattle.p8_constants.specs.FileItems.{items}
 use Rattle.p8_names.specs.Kinds.{numbered}
@@ -21,6 +20,7 @@ use Rattle.p8_image.specs.declared.clocks.Clock.{Clock}
 use Rattle.p8_image.specs.declared.parts.ObjectPart.{ObjectPart}
 use Rattle.p8_image.specs.Layout.{total, code_size, codes_offset, size_of, header_by}
 use Rattle.p8_image.specs.Projects.{FitsHub}
+use Rattle.p8_build.specs.Strings.{Texts}
 use Rattle.p8_build.specs.Parts.{method_parts, strings_of}
 use Rattle.p8_build.specs.Files.{CompiledFile, IsCompiled, method_names}
 use Rattle.p8_build.specs.Builds.{AreCompiled, objects_from, objects_of, IsBuilt}
@@ -171,7 +171,7 @@ pub record IsOne (source : Source) (seen : Children) (x : CompiledFile) : Type 0
   pub top : Bool
   pub is : IsCompiled source seen top x
 
-sizes : (strings : List (Place × List ℕ)) (ms : List MethodTree) (codes : List MethodCode) → length codes ≡ length ms → total code_size (method_parts strings ms codes) ≡ total bytes_in codes
+sizes : (strings : Texts) (ms : List MethodTree) (codes : List MethodCode) → length codes ≡ length ms → total code_size (method_parts strings ms codes) ≡ total bytes_in codes
 sizes strings [] [] is = refl
 sizes strings (m ∷ ms) [] is = absurd (omega (arith, is))
 sizes strings [] (code ∷ codes) is = absurd (omega (arith, is))

@@ -4,8 +4,8 @@ use Rattle.std.specs.Prelude.{Contains, map, flat_map, drop}
 use Rattle.std.proofs.lemmas.List.{map-append}
 use Rattle.p8_tree.specs.declared.places.Place.{Place}
 use Rattle.p8_tree.specs.Projects.{NamedSource}
-use Rattle.p8_instr.specs.declared.op.Op.{Op}
-use Rattle.p8_instr.specs.Spelling.{spelled}
+use Rattle.p8_bytecode.specs.declared.op.Op.{Op}
+use Rattle.p8_bytecode.specs.Spelling.{spelled}
 use Rattle.p8_kinds.specs.declared.children.Children.{Children}
 use Rattle.p8_names.specs.Children.{AreChildren}
 use Rattle.p8_gen.specs.declared.writer.Line.{Line}

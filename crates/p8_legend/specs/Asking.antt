@@ -5,8 +5,8 @@ use Rattle.p8_access.specs.declared.kinds.Access.{Access}
 use Rattle.p8_access.specs.declared.order.Turn.{Turn}
 use Rattle.p8_access.specs.Lives.{Entered}
 use Rattle.p8_access.specs.Timing.{Asks, Goes, played}
-use Rattle.p8_instr.specs.declared.op.Op.{Op}
-use Rattle.p8_instr.specs.Spelling.{spelled}
+use Rattle.p8_bytecode.specs.declared.op.Op.{Op}
+use Rattle.p8_bytecode.specs.Spelling.{spelled}
 use Rattle.p8_bcog.specs.declared.state.State.{State}
 use Rattle.p8_bcog.specs.Bytecodes.{clocks, row}
 use Rattle.p8_bcog.specs.Code.{fetched}

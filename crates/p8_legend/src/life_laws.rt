@@ -4,7 +4,7 @@ ghost use Rattle.p8_tree.specs.declared.places.Place.{Place};
 ghost use Rattle.p8_tree.specs.Statements.{Statement, Statements};
 ghost use Rattle.p8_access.specs.declared.order.Turn.{Turn};
 ghost use Rattle.p8_access.specs.Lives.{Entered};
-ghost use Rattle.p8_instr.specs.declared.op.Op.{Op};
+ghost use Rattle.p8_bytecode.specs.declared.op.Op.{Op};
 ghost use Rattle.p8_bcog.specs.Counters.{IsAskedFrom};
 ghost use Rattle.p8_gen.specs.Methods.{method_code};
 ghost use Rattle.p8_gen.specs.Names.{Names};

@@ -1,6 +1,6 @@
 -- Settings that give each expression the same value.
 use Rattle.std.proofs.Common.{◌≡◌, ℕ, ◌==◌, if◌then◌else◌, None, List, refl, ap, ◌∙◌}
-use Rattle.p8_tree.specs.Expressions.{Tree, node, Form, Number, Str, Here, Var, Call, Unary, Binary, Assign, Change, Address, ObjectAddress, ObjConst, Built, Look, Variable, Named, Part, Memory, Register, no_index, index, whole, bits, Trees, no_trees, ◌▷◌}
+use Rattle.p8_tree.specs.Expressions.{Tree, node, Form, Number, Str, Strings, Here, Var, Call, Unary, Binary, Assign, Change, Address, ObjectAddress, ObjConst, Built, Look, Variable, Named, Part, Memory, Register, no_index, index, whole, bits, Trees, no_trees, ◌▷◌}
 use Rattle.p8_kinds.specs.Meanings.{Setting, meaning_of, value_of_meaning, address_of_meaning, given}
 use Rattle.p8_kinds.specs.Values.{constant_of, before, between, value, value_of_form, value_of_variable, value_of_register, address_of, value_of_one}
 
@@ -33,6 +33,7 @@ module _ (s t : Setting) (alike : Alike s t) where
     form-alike : (form : Form) → value_of_form s form ≡ value_of_form t form
     form-alike (Number n) = refl
     form-alike (Str text) = refl
+    form-alike (Strings es) = refl
     form-alike Here = ap (λ h. h.address) alike.here
     form-alike (Var v) = variable-alike v
     form-alike (Call trap object i n place args) = refl

@@ -18,13 +18,14 @@ use Rattle.p8_stmt.specs.declared.code.MethodCode.{MethodCode}
 use Rattle.p8_stmt.specs.Methods.{IsCodeOf, IsMethodFault, jump_too_far, use_in}
 use Rattle.p8_compiled.specs.Placing.{HasCode, HasLines}
 use Rattle.p8_compiled.proofs.Lengths.{method-measured}
+use Rattle.p8_build.specs.Strings.{Texts}
 use Rattle.p8_build.specs.Parts.{text_number, use_of_text}
 use Rattle.p8_opt.proofs.Linking.{zeros, twins}
 use Rattle.p8_opt.proofs.Linked.{linked-is, used}
 use Rattle.p8_image.proofs.Memories.{Lies}
 use Rattle.p8_opt.proofs.Images.{code-is, drop-is}
 
-module _ (strings : List (Place × List ℕ)) (offsets : List ℕ) where
+module _ (strings : Texts) (offsets : List ℕ) where
   abbrev pub text : Place → ℕ
   text p = slice_index offsets (text_number strings p)
 

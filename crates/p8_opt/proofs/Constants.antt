@@ -2,7 +2,7 @@
 use Rattle.std.proofs.Common.{◌≡◌, ℕ, ◌^◌, ◌<◌, Bool, true, false, ◌==◌, ◌&&◌, if◌then◌else◌, Option, Some, None, List, refl, sym, subst, arith}
 use Rattle.std.specs.Str.{bytes_eq}
 use Rattle.p8_tree.specs.Names.{result_word}
-use Rattle.p8_tree.specs.Expressions.{Tree, node, Form, Number, Str, Here, Var, Call, Unary, Binary, Assign, Change, Address, ObjectAddress, ObjConst, Built, Look, Variable, Named, Part, Memory, Register, no_index, index, whole, bits, Trees, no_trees, ◌▷◌}
+use Rattle.p8_tree.specs.Expressions.{Tree, node, Form, Number, Str, Strings, Here, Var, Call, Unary, Binary, Assign, Change, Address, ObjectAddress, ObjConst, Built, Look, Variable, Named, Part, Memory, Register, no_index, index, whole, bits, Trees, no_trees, ◌▷◌}
 use Rattle.p8_tree.specs.Proper.{IsProperTree, IsProperForm, AreProperTrees}
 use Rattle.p8_words.specs.Operators.{or_zero, divides, unary_result, binary_result}
 use Rattle.p8_kinds.specs.declared.meanings.Meaning.{Meaning}
@@ -93,6 +93,7 @@ module _ (s : Setting) (words : HasWords s) where
     small-form : (form : Form) → IsProperForm false form → IsSmall (value_of_form s form)
     small-form (Number n) proper = proper
     small-form (Str text) proper = tt
+    small-form (Strings es) proper = tt
     small-form Here proper = subst (λ h. IsSmall h.address) (sym words.here) tt
     small-form (Var v) proper = small-variable v
     small-form (Call trap object i n place args) proper = tt

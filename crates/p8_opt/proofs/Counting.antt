@@ -22,6 +22,7 @@ use Rattle.p8_kinds.specs.declared.children.Children.{Children}
 use Rattle.p8_names.specs.Kinds.{numbered, objects, instances}
 use Rattle.p8_names.specs.Faults.{of_name, instances as of_instances}
 use Rattle.p8_stmt.specs.declared.code.MethodCode.{MethodCode}
+use Rattle.p8_build.specs.Strings.{Texts}
 use Rattle.p8_build.specs.Parts.{method_part, method_parts, number_of, instances_of}
 use Rattle.p8_build.specs.Files.{CompiledFile, setting_of, are_too_many, IsCode, too_many}
 use Rattle.p8_opt.proofs.Alike.{Alike, value-alike}
@@ -136,12 +137,12 @@ changed-method source changed seen x is k m at =
 
 -- ---- the parts of an object
 
-pub parts-length : (strings : List (Place × List ℕ)) (ms : List MethodTree) (codes : List MethodCode) → length codes ≡ length ms → length (method_parts strings ms codes) ≡ length ms
+pub parts-length : (strings : Texts) (ms : List MethodTree) (codes : List MethodCode) → length codes ≡ length ms → length (method_parts strings ms codes) ≡ length ms
 parts-length strings [] codes is = refl
 parts-length strings (m ∷ ms) [] is = absurd (omega (arith, is))
 parts-length strings (m ∷ ms) (c ∷ codes) is = ap suc (parts-length strings ms codes (omega (arith, is)))
 
-pub part-at : (strings : List (Place × List ℕ)) (ms : List MethodTree) (codes : List MethodCode) (k : ℕ) (m : MethodTree) (c : MethodCode) → slice_get ms k ≡ Some m → slice_get codes k ≡ Some c
+pub part-at : (strings : Texts) (ms : List MethodTree) (codes : List MethodCode) (k : ℕ) (m : MethodTree) (c : MethodCode) → slice_get ms k ≡ Some m → slice_get codes k ≡ Some c
     → slice_get (method_parts strings ms codes) k ≡ Some (method_part strings m c)
 part-at strings [] codes k m c is code = absurd (none-some m is)
 part-at strings (n ∷ ms) [] k m c is code = absurd (none-some c code)

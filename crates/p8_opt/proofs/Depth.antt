@@ -2,7 +2,7 @@
 use Rattle.std.proofs.Common.{◌≡◌, ℕ, ◌+◌, ◌<◌, ◌≤◌, ◌==◌, ◌&&◌, not, max, Bool, true, false, if◌then◌else◌, Option, Some, None, option_map, refl, subst, ap, arith}
 use Rattle.std.proofs.lemmas.Bool.Decides.{nat_tests}
 use Rattle.p8_tree.specs.declared.places.Place.{Place}
-use Rattle.p8_tree.specs.Expressions.{Tree, node, Form, Number, Str, Here, Var, Call, Unary, Binary, Assign, Change, Address, ObjectAddress, ObjConst, Built, Look, Variable, Named, Part, Memory, Register, Index, no_index, index, Bits, whole, bits, single, range, Trees, no_trees, ◌▷◌, Items, no_items, ◌▸◌}
+use Rattle.p8_tree.specs.Expressions.{Tree, node, Form, Number, Str, Strings, Here, Var, Call, Unary, Binary, Assign, Change, Address, ObjectAddress, ObjConst, Built, Look, Variable, Named, Part, Memory, Register, Index, no_index, index, Bits, whole, bits, single, range, Trees, no_trees, ◌▷◌, Items, no_items, ◌▸◌}
 use Rattle.p8_tree.specs.Statements.{Course, Forever, Count, Before, After, From, statement, Action, Do, If, Case, Repeat, Next, Quit, Return, Abort, arm, Otherwise, nothing_else, otherwise, Statements, no_statements, ◌▹◌, Arms, no_arms, ◌⊳◌}
 use Rattle.p8_gen.specs.Names.{Names}
 use Rattle.p8_gen.specs.Expressions.{starts_method}
@@ -43,6 +43,7 @@ module _ (n : Names) where
   some-held : (e : Tree) → 1 ≤ held n e
   some-held (node place (Number v)) = omega arith
   some-held (node place (Str text)) = omega arith
+  some-held (node place (Strings es)) = omega arith
   some-held (node place Here) = omega arith
   some-held (node place (Var v)) = omega arith
   some-held (node place (Call stops object i method at es)) = omega arith
@@ -70,6 +71,7 @@ module _ (n : Names) (number : Tree → Option ℕ) (suits : StartsNothing n num
   or-arguments None place (Call stops object i method at es) = let same = counts-same number es in omega (arith, same)
   or-arguments None place (Number v) = omega arith
   or-arguments None place (Str text) = omega arith
+  or-arguments None place (Strings es) = omega arith
   or-arguments None place Here = omega arith
   or-arguments None place (Var v) = omega arith
   or-arguments None place (Unary operator e) = omega arith
@@ -96,6 +98,7 @@ module _ (n : Names) (number : Tree → Option ℕ) (suits : StartsNothing n num
     form-held : (form : Form) → held_by n (form_with number form) ≤ held_by n form
     form-held (Number v) = omega arith
     form-held (Str text) = omega arith
+    form-held (Strings es) = omega arith
     form-held Here = omega arith
     form-held (Var v) = most _ _ _ _ (omega arith) (naming-held v)
     form-held (Call stops object i method at es) = most _ _ _ _ (omega arith) (most _ _ _ _ (trees-held es) (over-most _ _ _ _ (counts-same number es) (index-held i)))

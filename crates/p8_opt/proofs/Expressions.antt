@@ -1,7 +1,7 @@
 -- The code of a folded expression is no longer, and its jumps go no farther.
 use Rattle.std.proofs.Common.{◌≡◌, ℕ, ◌+◌, ◌≤◌, ◌==◌, not, Bool, true, false, if◌then◌else◌, List, Option, Some, None, refl, sym, subst}
 use Rattle.p8_tree.specs.declared.places.Place.{Place}
-use Rattle.p8_tree.specs.Expressions.{Tree, node, Form, Number, Str, Here, Var, Call, Unary, Binary, Assign, Change, Address, ObjectAddress, ObjConst, Built, Look, Variable, Named, Part, Memory, Register, Index, no_index, index, whole, bits, single, range, Trees, no_trees, ◌▷◌, Items, no_items, ◌▸◌}
+use Rattle.p8_tree.specs.Expressions.{Tree, node, Form, Number, Str, Strings, Here, Var, Call, Unary, Binary, Assign, Change, Address, ObjectAddress, ObjConst, Built, Look, Variable, Named, Part, Memory, Register, Index, no_index, index, whole, bits, single, range, Trees, no_trees, ◌▷◌, Items, no_items, ◌▸◌}
 use Rattle.p8_kinds.specs.declared.name_kinds.NameKind.{NameKind}
 use Rattle.p8_kinds.specs.declared.name_kinds.NameKind.TheVariants as kinds
 use Rattle.p8_words.specs.Operators.{or_zero}
@@ -92,6 +92,7 @@ module _ (n : Names) (all : n.wide ≡ all_wide) (number_of : Tree → Option �
     form-closer : (ts : Targets) (place : Place) (form : Form) → Closer ts (value_of_form n place (form_with number_of form)) (value_of_form n place form)
     form-closer ts place (Number v) = same (number-fixed v)
     form-closer ts place (Str text) = same (shape.texts place _)
+    form-closer ts place (Strings es) = same (shape.texts place _)
     form-closer ts place Here = nothings
     form-closer ts place (Var (Named name no_index at)) = same (name-fixed n name (n.kind name))
     form-closer ts place (Var (Named name (index e) at)) = both (tree-closer ts e) (ones _)

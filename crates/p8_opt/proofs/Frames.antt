@@ -12,9 +12,9 @@ use Rattle.p8_tree.specs.Sources.{Declared, MethodTree, Source}
 use Rattle.p8_tree.specs.Projects.{NamedSource}
 use Rattle.p8_tree.specs.Faults.{fault}
 use Rattle.p8_tree.specs.declared.refusal.Refusal.TheVariants.{FrameTooLarge}
-use Rattle.p8_instr.specs.Reading.{bare}
-use Rattle.p8_instr.specs.Spelling.{spelled}
-use Rattle.p8_instr.specs.Table.{rows}
+use Rattle.p8_bytecode.specs.Reading.{bare}
+use Rattle.p8_bytecode.specs.Spelling.{spelled}
+use Rattle.p8_bytecode.specs.Table.{rows}
 use Rattle.p8_kinds.specs.declared.meanings.Meaning.TheVariants as meaning_case
 use Rattle.p8_kinds.specs.Meanings.{Setting}
 use Rattle.p8_constants.specs.FileItems.{items}

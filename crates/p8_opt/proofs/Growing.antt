@@ -2,9 +2,9 @@
 -- before it does.
 use Rattle.std.proofs.Common.{◌≡◌, ℕ, ◌≤◌, ◌==◌, Bool, true, false, not, if◌then◌else◌, List, [], ◌∷◌, ◌++◌, Option, Some, None, refl, sym, ◌∙◌, arith}
 use Rattle.p8_tree.specs.declared.places.Place.{Place}
-use Rattle.p8_tree.specs.Expressions.{Tree, node, Form, Number, Str, Here, Var, Call, Unary, Binary, Assign, Change, Address, ObjectAddress, ObjConst, Built, Look, Variable, Named, Part, Memory, Register, Index, no_index, index, whole, bits, single, range, Trees, no_trees, ◌▷◌, Items, no_items, ◌▸◌}
+use Rattle.p8_tree.specs.Expressions.{Tree, node, Form, Number, Str, Strings, Here, Var, Call, Unary, Binary, Assign, Change, Address, ObjectAddress, ObjConst, Built, Look, Variable, Named, Part, Memory, Register, Index, no_index, index, whole, bits, single, range, Trees, no_trees, ◌▷◌, Items, no_items, ◌▸◌}
 use Rattle.p8_tree.specs.Statements.{Forever, Count, Before, After, From, Statement, statement, Action, Do, If, Case, Repeat, Next, Quit, Return, Abort, arm, Otherwise, nothing_else, otherwise, Statements, no_statements, ◌▹◌, Arms, no_arms, ◌⊳◌}
-use Rattle.p8_instr.specs.declared.op.Op.{Op}
+use Rattle.p8_bytecode.specs.declared.op.Op.{Op}
 use Rattle.p8_words.specs.Operators.{or_zero}
 use Rattle.p8_kinds.specs.Values as constants
 use Rattle.p8_gen.specs.Names.{Names}
@@ -73,6 +73,7 @@ module _ (n : Names) where
     form-grows : (place : Place) (form : Form) → Grows (value_of_form n place form)
     form-grows place (Number v) = fixed (number-fixed v)
     form-grows place (Str letters) = texts place _
+    form-grows place (Strings es) = texts place _
     form-grows place Here = nothings
     form-grows place (Var (Named name no_index q)) = fixed (name-fixed n name (n.kind name))
     form-grows place (Var (Named name (index e) q)) = both (value-grows e) (ones _)

@@ -4,7 +4,7 @@ use Rattle.std.proofs.Common.{◌≡◌, ℕ, suc, ◌+◌, ◌≤◌, ◌<◌, 
 use Rattle.std.proofs.lemmas.Bool.Decides.{nat_tests}
 use Rattle.std.proofs.lemmas.List.{length-append}
 use Rattle.p8_tree.specs.declared.places.Place.{Place}
-use Rattle.p8_tree.specs.Expressions.{Tree, node, Number, Str, Here, Var, Call, Unary, Binary, Assign, Change, Address, ObjectAddress, ObjConst, Built, Look, Variable, Named, Part, Memory, Register, Index, no_index, index, whole, bits, Item, single, range, Trees, no_trees, ◌▷◌, Items, no_items, ◌▸◌}
+use Rattle.p8_tree.specs.Expressions.{Tree, node, Number, Str, Strings, Here, Var, Call, Unary, Binary, Assign, Change, Address, ObjectAddress, ObjConst, Built, Look, Variable, Named, Part, Memory, Register, Index, no_index, index, whole, bits, Item, single, range, Trees, no_trees, ◌▷◌, Items, no_items, ◌▸◌}
 use Rattle.p8_tree.specs.Lists.{tree_list, count_of_trees}
 use Rattle.p8_tree.specs.Statements.{Course, Forever, Count, Before, After, From, statement, Action, Do, If, Case, Repeat, Next, Quit, Return, Abort, arm, Otherwise, nothing_else, otherwise, Statements, no_statements, ◌▹◌, Arms, no_arms, ◌⊳◌}
 use Rattle.p8_tree.specs.Proper.{IsDone, IsProperAction, AreProperArms, AreProperChoices, IsProperOtherwise, AreProperStatements, IsCondition}
@@ -69,6 +69,7 @@ module _ (names : Names) (m : List ℕ → Bool) (same : (name : List ℕ) → m
     some : (e : Tree) → 1 ≤ held names e
     some (node p (Number n)) = omega arith
     some (node p (Str text)) = omega arith
+    some (node p (Strings es)) = omega arith
     some (node p Here) = omega arith
     some (node p (Var v)) = omega arith
     some (node p (Call stops object i name q args)) = omega arith
@@ -90,6 +91,7 @@ module _ (names : Names) (m : List ℕ → Bool) (same : (name : List ℕ) → m
     deep : (e : Tree) → law.depth m e ≤ held names e
     deep (node p (Number n)) = omega arith
     deep (node p (Str text)) = omega arith
+    deep (node p (Strings es)) = omega arith
     deep (node p Here) = omega arith
     deep (node p (Var v)) = both 1 (law.names_depth m v) 1 (held_by_naming names v) (omega arith) (deep-naming v)
     deep (node p (Call stops object no_index name q args)) =
@@ -159,6 +161,7 @@ module _ (names : Names) (m : List ℕ → Bool) (same : (name : List ℕ) → m
     deep-begun (node p (Var (Register address x q))) f de df = omega (arith, de, df)
     deep-begun (node p (Number n)) f de df = omega (arith, de, df)
     deep-begun (node p (Str text)) f de df = omega (arith, de, df)
+    deep-begun (node p (Strings es)) f de df = omega (arith, de, df)
     deep-begun (node p Here) f de df = omega (arith, de, df)
     deep-begun (node p (Unary operator e)) f de df = omega (arith, de, df)
     deep-begun (node p (Binary operator a b)) f de df = omega (arith, de, df)
@@ -182,6 +185,7 @@ module _ (names : Names) (m : List ℕ → Bool) (same : (name : List ℕ) → m
   alone (node p (Built code args)) done = most 1 (law.built_depth m code args) (max 1 (held_by_built names code args)) (omega arith) (deep-built code args)
   alone (node p (Number n)) done = absurd done.0
   alone (node p (Str text)) done = absurd done.0
+  alone (node p (Strings es)) done = absurd done.0
   alone (node p Here) done = absurd done.0
   alone (node p (Unary operator e)) done = absurd done.0
   alone (node p (Binary operator a b)) done = absurd done.0

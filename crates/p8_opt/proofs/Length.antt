@@ -1,8 +1,8 @@
 -- The code of a constant tree is at least as long as its length says, so the number that it becomes is no longer.
 use Rattle.std.proofs.Common.{◌≡◌, ℕ, ◌+◌, ◌-◌, ◌^◌, ◌≤◌, ◌==◌, ◌||◌, nat_le, nat_lt, Bool, true, false, if◌then◌else◌, List, Option, Some, None, option_map, refl, ap, subst, ◌∙◌, arith}
 use Rattle.std.proofs.lemmas.Bool.Decides.{nat_tests}
-use Rattle.p8_tree.specs.Expressions.{Tree, node, Number, Str, Here, Var, Call, Unary, Binary, Assign, Change, Address, ObjectAddress, ObjConst, Built, Look, Named, Part, Memory, Register, no_index, index}
-use Rattle.p8_instr.specs.Table.{rows}
+use Rattle.p8_tree.specs.Expressions.{Tree, node, Number, Str, Strings, Here, Var, Call, Unary, Binary, Assign, Change, Address, ObjectAddress, ObjConst, Built, Look, Named, Part, Memory, Register, no_index, index}
+use Rattle.p8_bytecode.specs.Table.{rows}
 use Rattle.p8_words.specs.Operators.{or_zero, unary_value, binary_value}
 use Rattle.p8_kinds.specs.declared.meanings.Meaning.{Meaning}
 use Rattle.p8_kinds.specs.declared.meanings.Meaning.TheVariants as meaning_case
@@ -106,6 +106,7 @@ module _ (n : Names) (hides : HideNoConstant n) where
   constant-long (node place (Var (Memory size e i at))) h w = absurd h
   constant-long (node place (Var (Register register x at))) h w = absurd h
   constant-long (node place (Str text)) h w = absurd h
+  constant-long (node place (Strings es)) h w = absurd h
   constant-long (node place Here) h w = absurd h
   constant-long (node place (Call stops object i method at es)) h w = absurd h
   constant-long (node place (Assign v operator e)) h w = absurd h

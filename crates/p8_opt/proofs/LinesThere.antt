@@ -10,6 +10,7 @@ use Rattle.p8_gen.specs.Uses.{line_of}
 use Rattle.p8_stmt.specs.declared.code.MethodCode.{MethodCode}
 use Rattle.p8_image.specs.declared.parts.ObjectPart.{ObjectPart}
 use Rattle.p8_image.specs.Layout.{total, code_size, codes_offset, size_of, places_from}
+use Rattle.p8_build.specs.Strings.{Texts}
 use Rattle.p8_build.specs.Parts.{method_parts}
 use Rattle.p8_build.specs.Files.{CompiledFile}
 use Rattle.p8_compiled.specs.Placing.{IsLine, HasLines}
@@ -75,14 +76,14 @@ objects-lines base (o ∷ objects) (y ∷ xs) (suc i) object x at_o at_x k code 
     (objects-lines (base + size_of o) objects xs i object x at_o at_x k code at)
 
 -- the codes before one have the bytes of the methods before it
-same-totals : (strings : List (Place × List ℕ)) (ms : List MethodTree) (codes : List MethodCode) (k : ℕ) → k < length ms → k < length codes → total code_size (take k (method_parts strings ms codes)) ≡ total bytes_in (take k codes)
+same-totals : (strings : Texts) (ms : List MethodTree) (codes : List MethodCode) (k : ℕ) → k < length ms → k < length codes → total code_size (take k (method_parts strings ms codes)) ≡ total bytes_in (take k codes)
 same-totals strings ms codes zero less few = refl
 same-totals strings [] codes (suc k) less few = absurd (omega (arith, less))
 same-totals strings (m ∷ ms) [] (suc k) less few = absurd (omega (arith, few))
 same-totals strings (m ∷ ms) (code ∷ codes) (suc k) less few = ap (λ n. length code.bytes + n) (same-totals strings ms codes k (omega (arith, less)) (omega (arith, few)))
 
 pub method-lines : (objects : List ObjectPart) (xs : List CompiledFile) (i : ℕ) (object : ObjectPart) (x : CompiledFile) → slice_get objects i ≡ Some object → slice_get xs i ≡ Some x
-    → (strings : List (Place × List ℕ)) (ms : List MethodTree) → object.methods ≡ method_parts strings ms x.codes → (k : ℕ) → k < length ms → k < length x.codes → (code : MethodCode) → slice_get x.codes k ≡ Some code
+    → (strings : Texts) (ms : List MethodTree) → object.methods ≡ method_parts strings ms x.codes → (k : ℕ) → k < length ms → k < length x.codes → (code : MethodCode) → slice_get x.codes k ≡ Some code
     → HasLines (lines_from 16 objects xs) (slice_index (places_from size_of 16 objects) i + (codes_offset object + total code_size (take k object.methods))) (map line_of code.lines)
 method-lines objects xs i object x at_o at_x strings ms methods k less few code at =
     subst (λ (n : ℕ). HasLines (lines_from 16 objects xs) (slice_index (places_from size_of 16 objects) i + (codes_offset object + n)) (map line_of code.lines))

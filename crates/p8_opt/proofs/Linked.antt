@@ -4,9 +4,9 @@ use Rattle.std.specs.Prelude.{flat_map}
 use Rattle.std.proofs.lemmas.Grind.{flat_map-append}
 use Rattle.std.proofs.lemmas.List.{map-append, set-append_left, set-append_right, take-append-le, take_all, length-set}
 use Rattle.p8_tree.specs.declared.places.Place.{Place}
-use Rattle.p8_instr.specs.declared.op.Op.{Op}
-use Rattle.p8_instr.specs.Spelling.{spelled}
-use Rattle.p8_instr.specs.Table.{rows}
+use Rattle.p8_bytecode.specs.declared.op.Op.{Op}
+use Rattle.p8_bytecode.specs.Spelling.{spelled}
+use Rattle.p8_bytecode.specs.Table.{rows}
 use Rattle.p8_image.specs.declared.parts.TextUse.{TextUse}
 use Rattle.p8_image.specs.Layout.{linked}
 use Rattle.p8_opt.proofs.Linking.{Twin, none, same, named, text_op}

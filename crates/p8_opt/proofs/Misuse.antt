@@ -3,7 +3,7 @@ use Rattle.std.proofs.Common.{◌≡◌, ℕ, zero, suc, ◌+◌, ◌==◌, Bool
 use Rattle.std.specs.Prelude.{IsTrue, ◌⊎◌}
 use Rattle.std.proofs.lemmas.Bool.Decides.{nat_tests}
 use Rattle.p8_tree.specs.declared.places.Place.{Place}
-use Rattle.p8_tree.specs.Expressions.{Tree, node, Form, Number, Str, Here, Var, Call, Unary, Binary, Assign, Change, Address, ObjectAddress, ObjConst, Built, Look, Variable, Named, Part, Memory, Register, Index, no_index, index, Bits, whole, bits, Item, single, range, Trees, no_trees, ◌▷◌, Items, no_items, ◌▸◌}
+use Rattle.p8_tree.specs.Expressions.{Tree, node, Form, Number, Str, Strings, Here, Var, Call, Unary, Binary, Assign, Change, Address, ObjectAddress, ObjConst, Built, Look, Variable, Named, Part, Memory, Register, Index, no_index, index, Bits, whole, bits, Item, single, range, Trees, no_trees, ◌▷◌, Items, no_items, ◌▸◌}
 use Rattle.p8_tree.specs.Statements.{Course, Forever, Count, Before, After, From, Statement, statement, Do, If, Case, Repeat, Next, Quit, Return, Abort, arm, Otherwise, nothing_else, otherwise, Statements, no_statements, ◌▹◌, Arms, no_arms, ◌⊳◌}
 use Rattle.p8_tree.specs.Lists.{tree_list, count_of_trees}
 use Rattle.p8_tree.specs.Proper as proper
@@ -89,6 +89,7 @@ module _ (env : Environment) (f : Fault) (number : Tree → Option ℕ) where
   own-same : (place : Place) (form : Form) → own_misuse env place (form_with number form) ≡ own_misuse env place form
   own-same place (Number n) = refl
   own-same place (Str text) = refl
+  own-same place (Strings es) = refl
   own-same place Here = refl
   own-same place (Var v) = value-same v
   own-same place (Call stops object i method at es) = call-same object method es place at
@@ -118,6 +119,7 @@ module _ (env : Environment) (f : Fault) (number : Tree → Option ℕ) where
     form-broken : (form : Form) → IsProperForm false form → BrokenInside (in_method env) (form_with number form) f → BrokenInside (in_method env) form f
     form-broken (Number n) proper h = h
     form-broken (Str text) proper h = h
+    form-broken (Strings es) proper h = h
     form-broken Here proper h = h
     form-broken (Var v) proper h = variable-broken v proper h
     form-broken (Call stops object i method at es) proper h = either_of (index-broken i proper.2) (trees-broken es proper.3) h
@@ -260,6 +262,7 @@ module _ (env : Environment) (f : Fault) where
     done-misused (node place (Var (Register register x at))) proper h = absurd proper.0
     done-misused (node place (Number n)) proper h = absurd proper.0
     done-misused (node place (Str text)) proper h = absurd proper.0
+    done-misused (node place (Strings es)) proper h = absurd proper.0
     done-misused (node place Here) proper h = absurd proper.0
     done-misused (node place (Unary operator e)) proper h = absurd proper.0
     done-misused (node place (Binary operator a b)) proper h = absurd proper.0

@@ -1,14 +1,14 @@
 -- What is wrong with the uses of names, by two environments that say the same.
-use Rattle.std.proofs.Common.{◌≡◌, ◌⊎◌, inl, inr, ℕ, not, ◌==◌, List, Option, Some, None, refl, sym, ap, ◌∙◌}
+use Rattle.std.proofs.Common.{◌≡◌, ◌⊎◌, inl, inr, ℕ, true, false, not, ◌==◌, List, Option, Some, None, refl, sym, ap, ◌∙◌}
 use Rattle.std.specs.Prelude.{IsTrue, is_some}
 use Rattle.p8_tree.specs.declared.places.Place.{Place}
-use Rattle.p8_tree.specs.Expressions.{Tree, node, Form, Number, Str, Here, Var, Call, Unary, Binary, Assign, Change, Address, ObjectAddress, ObjConst, Built, Look, Variable, Named, Part, Memory, Register, Index, no_index, index, Bits, whole, bits, Item, single, range, Trees, no_trees, ◌▷◌, Items, no_items, ◌▸◌}
+use Rattle.p8_tree.specs.Expressions.{Tree, node, Form, Number, Str, Strings, Here, Var, Call, Unary, Binary, Assign, Change, Address, ObjectAddress, ObjConst, Built, Look, Variable, Named, Part, Memory, Register, Index, no_index, index, Bits, whole, bits, Item, single, range, Trees, no_trees, ◌▷◌, Items, no_items, ◌▸◌}
 use Rattle.p8_tree.specs.Statements.{Course, Forever, Count, Before, After, From, statement, Action, Do, If, Case, Repeat, Next, Quit, Return, Abort, arm, Otherwise, nothing_else, otherwise, Statements, no_statements, ◌▹◌, Arms, no_arms, ◌⊳◌}
 use Rattle.p8_tree.specs.Lists.{count_of_trees}
 use Rattle.p8_tree.specs.declared.faults.Fault.{Fault}
 use Rattle.p8_tree.specs.Faults.{fault}
 use Rattle.p8_tree.specs.declared.refusal.Refusal.TheVariants.{Unknown}
-use Rattle.p8_kinds.specs.Values.{FaultIn, FaultInTrees, where_so, HasValue, IsRefused}
+use Rattle.p8_kinds.specs.Values.{FaultIn, FaultInTrees, FaultOfItem, FaultInText, fault_of_character, string_of, where_so, HasValue, IsRefused}
 use Rattle.p8_kinds.proofs.Judged.{one_outcome}
 use Rattle.p8_kinds.specs.declared.name_kinds.NameKind.{NameKind}
 use Rattle.p8_kinds.specs.declared.name_kinds.NameKind.TheVariants as kind_case
@@ -75,6 +75,7 @@ module _ (d e : Environment) (same : SaySame d e) where
   own-same : (p : Place) (form : Form) → own_misuse d p form ≡ own_misuse e p form
   own-same p (Number n) = refl
   own-same p (Str text) = refl
+  own-same p (Strings es) = refl
   own-same p Here = refl
   own-same p (Var v) = value-same v
   own-same p (Call trap object i method place args) = call-same object method (count_of_trees args) p place
@@ -102,6 +103,19 @@ module _ (d e : Environment) (same : SaySame d e) where
   constants-move no_trees = nothing-there
   constants-move (xs ▷ x) = both (constants-move xs) (constant-moves x)
 
+  -- a fault of the items of STRING
+  item-moves : (text : Option (List ℕ)) (x : Tree) → Moves (FaultOfItem d.constants text x) (FaultOfItem e.constants text x)
+  item-moves (Some text) x = nothing-there
+  item-moves None (node p form) = both (λ f is. (f, ap (λ v. fault_of_character v p) (sym (value-alike d.constants e.constants same.values (node p form))) ∙ is)) (constant-moves (node p form))
+
+  text-moves : (xs : Trees) → Moves (FaultInText d.constants xs) (FaultInText e.constants xs)
+  text-moves no_trees = nothing-there
+  text-moves (xs ▷ x) = both (text-moves xs) (item-moves (string_of x) x)
+
+  constant-text : (xs : Trees) → Moves (BrokenInside (in_method d) (Strings xs)) (BrokenInside (in_method e) (Strings xs))
+  constant-text xs f (inl h) = let g = text-moves xs f h.1 in (g.0, inl (h.0, g.1))
+  constant-text xs f (inr h) = absurd (let never : false ≡ true = h.0 in cc)
+
   built : {P Q : Fault → Type 0} (A B : Type 0) (xs : Trees) → Moves P Q → Moves (λ f. (A × FaultInTrees d.constants xs f) ⊎ (B × P f)) (λ f. (A × FaultInTrees e.constants xs f) ⊎ (B × Q f))
   built A B xs moves f (inl b) = let h = constants-move xs f b.1 in (h.0, inl (b.0, h.1))
   built A B xs moves f (inr b) = let h = moves f b.1 in (h.0, inr (b.0, h.1))
@@ -116,6 +130,7 @@ module _ (d e : Environment) (same : SaySame d e) where
     inside : (form : Form) → Moves (BrokenInside (in_method d) form) (BrokenInside (in_method e) form)
     inside (Number n) = nothing-there
     inside (Str text) = nothing-there
+    inside (Strings es) = constant-text es
     inside Here = nothing-there
     inside (Var v) = in-variable v
     inside (Call trap object i method place args) = both (in-index i) (in-trees args)

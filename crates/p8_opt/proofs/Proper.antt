@@ -2,7 +2,7 @@
 use Rattle.std.proofs.Common.{ℕ, ◌≤◌, ◌==◌, max, Bool, true, false, not, if◌then◌else◌, Option, Some, None, option_map, refl, arith, List}
 use Rattle.std.specs.Prelude.{IsTrue, IfSome}
 use Rattle.p8_tree.specs.declared.places.Place.{Place}
-use Rattle.p8_tree.specs.Expressions.{Tree, node, Form, Number, Str, Here, Var, Call, Unary, Binary, Assign, Change, Address, ObjectAddress, ObjConst, Built, Look, Variable, Named, Part, Memory, Register, Index, no_index, index, Bits, whole, bits, Item, single, range, Trees, no_trees, ◌▷◌, Items, no_items, ◌▸◌}
+use Rattle.p8_tree.specs.Expressions.{Tree, node, Form, Number, Str, Strings, Here, Var, Call, Unary, Binary, Assign, Change, Address, ObjectAddress, ObjConst, Built, Look, Variable, Named, Part, Memory, Register, Index, no_index, index, Bits, whole, bits, Item, single, range, Trees, no_trees, ◌▷◌, Items, no_items, ◌▸◌}
 use Rattle.p8_tree.specs.Statements.{Course, Forever, Count, Before, After, From, Statement, statement, Do, If, Case, Repeat, Next, Quit, Return, Abort, arm, Otherwise, nothing_else, otherwise, Statements, no_statements, ◌▹◌, Arms, no_arms, ◌⊳◌}
 use Rattle.p8_tree.specs.Heights.{height, height_in, height_in_variable, height_in_index, height_in_bits, height_of_item, height_of_trees, height_of_items}
 use Rattle.p8_tree.specs.Proper.{IfThere, IsCalled, is_written, is_in_memory, may_have, is_no_item, arguments_fit, arguments_fit_alone, IsProperTree, IsProperForm, IsProperVariable, IsProperIndex, AreProperBits, IsProperItem, AreProperTrees, AreProperItems, IsProperExpression, IsProperTest, AreProperTests, IsDone, IsDoneForm, IsProperCourse, IsCondition, IsProperStatement, AreProperArms, AreProperChoices, IsProperOtherwise, AreProperStatements}
@@ -73,6 +73,7 @@ module _ (number : Tree → Option ℕ) (words : GivesWords number) where
     pub form-proper : (form : Form) → IsProperForm false form → IsProperForm false (form_with number form)
     form-proper (Number n) h = h
     form-proper (Str text) h = h
+    form-proper (Strings es) h = h
     form-proper Here h = h
     form-proper (Var v) h = variable-proper v h
     form-proper (Call stops object i method at es) h = (h.0, called stops object i es h.1, index-proper i h.2, trees-proper es h.3)
@@ -136,6 +137,7 @@ module _ (number : Tree → Option ℕ) where
     form-low : (form : Form) → height_in (form_with number form) ≤ height_in form
     form-low (Number n) = omega arith
     form-low (Str text) = omega arith
+    form-low (Strings es) = omega arith
     form-low Here = omega arith
     form-low (Var v) = variable-low v
     form-low (Call stops object i method at es) = most _ _ _ _ (index-low i) (trees-low es)
@@ -254,6 +256,7 @@ module _ (c : Constants) (words : AreWords c) where
   done-form (Built code es) h = (fitting_alone (shorter_number c) gives es code h.0, arguments-proper (shorter_number c) gives code es h.1)
   done-form (Number n) h = h
   done-form (Str text) h = h
+  done-form (Strings es) h = h
   done-form Here h = h
   done-form (Unary operator e) h = h
   done-form (Binary operator a b) h = h

@@ -1,7 +1,7 @@
 -- A folded tree starts a method where the tree does, and has as many arguments.
 use Rattle.std.proofs.Common.{◌≡◌, ℕ, ◌+◌, false, Option, Some, None, refl, sym, ap}
 use Rattle.p8_tree.specs.declared.places.Place.{Place}
-use Rattle.p8_tree.specs.Expressions.{Tree, node, Form, Number, Str, Here, Var, Call, Unary, Binary, Assign, Change, Address, ObjectAddress, ObjConst, Built, Look, Named, Part, Memory, Register, no_index, index, Trees, no_trees, ◌▷◌}
+use Rattle.p8_tree.specs.Expressions.{Tree, node, Form, Number, Str, Strings, Here, Var, Call, Unary, Binary, Assign, Change, Address, ObjectAddress, ObjConst, Built, Look, Named, Part, Memory, Register, no_index, index, Trees, no_trees, ◌▷◌}
 use Rattle.p8_gen.specs.Names.{Names}
 use Rattle.p8_gen.specs.Expressions.{starts_method, count_of}
 use Rattle.p8_meaning.specs.Folding.{number_or, tree_with, form_with, trees_with}
@@ -24,6 +24,7 @@ module _ (n : Names) (number : Tree → Option ℕ) where
   starts-form place (Var (Register register x at)) = refl
   starts-form place (Number v) = refl
   starts-form place (Str text) = refl
+  starts-form place (Strings es) = refl
   starts-form place Here = refl
   starts-form place (Unary operator e) = refl
   starts-form place (Binary operator a b) = refl

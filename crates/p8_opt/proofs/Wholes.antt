@@ -1,10 +1,11 @@
 -- A whole project with short code, from its files.
 use Rattle.std.proofs.Common.{◌≡◌, ℕ, suc, ◌<◌, ◌==◌, Bool, true, List, [], ◌∷◌, length, slice_get, Some, refl, ap, sym, ◌∙◌, subst, arith}
-use Rattle.std.specs.Prelude.{option_map}
+use Rattle.std.specs.Prelude.{map, option_map}
 use Rattle.std.specs.List.{flat_map}
 use Rattle.std.proofs.lemmas.List.{length-map}
 use Rattle.std.proofs.lemmas.Option.{slice_get_within, slice_get-map, none-some}
 use Rattle.p8_tree.specs.declared.places.Place.{Place}
+use Rattle.p8_tree.specs.Expressions.{Form}
 use Rattle.p8_tree.specs.Projects.{NamedSource}
 use Rattle.p8_tree.specs.Proper.{IsProperFile}
 use Rattle.p8_tree.specs.Sources.{MethodTree, Source}
@@ -28,7 +29,8 @@ use Rattle.p8_build.specs.declared.accepting.AcceptedFile.{AcceptedFile}
 use Rattle.p8_build.specs.declared.building.Accepted.{Accepted}
 use Rattle.p8_build.specs.declared.building.Built.{Built}
 use Rattle.p8_build.specs.Accepted.{IsAccepted, IsFinished, compiled_file, compiled_files, recoded_file}
-use Rattle.p8_build.specs.Parts.{AreProper, strings_of, method_part, method_parts, variable_in, instances_of}
+use Rattle.p8_build.specs.Strings.{Texts}
+use Rattle.p8_build.specs.Parts.{AreProper, strings_of, text_in, method_part, method_parts, variable_in, instances_of}
 use Rattle.p8_build.specs.Files.{CompiledFile, IsCompiled, setting_of, method_names, object_of}
 use Rattle.p8_build.specs.Builds.{IsFile, AreCompiled, objects_from, objects_of, clock_by, IsImageFault, too_large, no_clock}
 use Rattle.p8_build.specs.Phases.{clock_in}
@@ -45,7 +47,7 @@ use Rattle.p8_opt.proofs.Sizes.{IsNoLonger, AreNoLonger, IsNoGreater, AreNoGreat
 
 -- ---- the methods of files with short code
 
-parts-no-longer : (strings : List (Place × List ℕ)) (ms : List MethodTree) (cs ds : List MethodCode) → length cs ≡ length ms → length ds ≡ length ms
+parts-no-longer : (strings : Texts) (ms : List MethodTree) (cs ds : List MethodCode) → length cs ≡ length ms → length ds ≡ length ms
     → ((k : ℕ) (m : MethodTree) (c d : MethodCode) → slice_get ms k ≡ Some m → slice_get cs k ≡ Some c → slice_get ds k ≡ Some d → IsNoLonger (method_part strings m c) (method_part strings m d))
     → AreNoLonger (method_parts strings ms cs) (method_parts strings ms ds)
 parts-no-longer strings [] cs ds a b each = tt
@@ -58,7 +60,7 @@ object-no-greater : (files : List NamedSource) (file : NamedSource) (seen : Chil
 object-no-greater files file seen top x y is proper s = record {
   variables = ap (λ k. flat_map (variable_in (file_setting k seen)) (items file.tree)) s.kinds;
   dat = s.dat;
-  texts = refl;
+  texts = ap (λ k. map (λ (x : Place × Form). text_in (file_setting k seen) x.1) (strings_of file.tree)) s.kinds;
   instances = ap (λ k. flat_map (instances_of files (file_setting k seen)) (objects (items file.tree))) s.kinds;
   methods = parts-no-longer (strings_of file.tree) (numbered (items file.tree)) x.codes y.codes is.code.count s.count (λ k m c d at at_c at_d.
       let short = s.each k m d at at_d in

@@ -1,7 +1,7 @@
 -- The value of a constant tree is a word.
 use Rattle.std.proofs.Common.{◌≡◌, ℕ, ◌^◌, ◌<◌, nat_le, Bool, true, false, if◌then◌else◌, Option, Some, None, option_map, refl, arith}
 use Rattle.std.specs.Prelude.{IfSome}
-use Rattle.p8_tree.specs.Expressions.{Tree, node, Number, Str, Here, Var, Call, Unary, Binary, Assign, Change, Address, ObjectAddress, ObjConst, Built, Look, Named, Part, Memory, Register, no_index, index}
+use Rattle.p8_tree.specs.Expressions.{Tree, node, Number, Str, Strings, Here, Var, Call, Unary, Binary, Assign, Change, Address, ObjectAddress, ObjConst, Built, Look, Named, Part, Memory, Register, no_index, index}
 use Rattle.p8_tree.specs.Proper.{IsProperTree}
 use Rattle.p8_words.specs.Operators.{or_zero, unary_result, binary_result, unary_value, binary_value}
 use Rattle.p8_meaning.specs.Constants.{Constants, both, constant_value, number_length, code_length, within, shorter_number}
@@ -45,6 +45,7 @@ module _ (c : Constants) (words : AreWords c) where
   value-word (node place (Var (Memory size e i at))) proper = tt
   value-word (node place (Var (Register register x at))) proper = tt
   value-word (node place (Str text)) proper = tt
+  value-word (node place (Strings es)) proper = tt
   value-word (node place Here) proper = tt
   value-word (node place (Call stops object i method at arguments)) proper = tt
   value-word (node place (Assign v operator e)) proper = tt

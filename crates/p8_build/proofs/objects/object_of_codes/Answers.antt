@@ -25,12 +25,12 @@ returns-clause-made c =
     let s = setting_in f.tables.consts in
     let methods : trees c.as_slice-methods.result.now ≡ methods_of f = ap trees c.as_slice-methods.ensures in
     let texts : map text_of c.in_ok-strings.strings ≡ flat_map strings_in_method (methods_of f) = c.in_ok-strings.ensures ∙ ap (flat_map strings_in_method) methods in
-    object_made files s (items_of f.items) (methods_of f) f.dat.bytes codes c.in_ok-variables_of.field-0 c.in_ok-copy_of.field-0 c.in_ok-parts_of.field-0 c.in_ok-copies_of.field-0 c.in_ok-instances_of.field-0
+    object_made files s (items_of f.items) (methods_of f) f.dat.bytes codes c.in_ok-variables_of.field-0 c.in_ok-copy_of.field-0 c.in_ok-parts_of.field-0 c.in_ok-texts_in.field-0 c.in_ok-instances_of.field-0
     (c.in_ok-variables_of.ensures ∙ ap (λ (xs : List Item). flat_map (variable_in s) xs) (ap items_of c.as_slice-items.ensures))
     (c.in_ok-copy_of.ensures ∙ c.as_slice-2.ensures)
     (parts_made (methods_of f) codes c.in_ok-texts.texts c.in_ok-strings.strings c.as_slice.result.now c.in_ok-parts_of.field-0 texts c.as_slice.ensures c.in_ok-texts.ensures
     (c.in_ok-parts_of.ensures ∙ ap (λ (ms : List MethodTree). parts_by (number_by c.in_ok-texts.texts) ms codes) methods))
-    (words_made (methods_of f) c.in_ok-strings.strings c.as_slice-3.result.now c.in_ok-copies_of.field-0 texts c.as_slice-3.ensures c.in_ok-copies_of.ensures)
+    (words_made s (methods_of f) c.in_ok-strings.strings c.as_slice-3.result.now c.in_ok-texts_in.field-0 texts c.as_slice-3.ensures c.in_ok-texts_in.ensures)
     (c.in_ok-instances_of.ensures ∙ ap (λ (xs : List Item). flat_map (instances_of files s) (objects xs)) (ap items_of c.as_slice-items.ensures))
 
 pub returns-clause-object : goal.returns-clause-object
@@ -41,11 +41,11 @@ returns-clause-object c = λ source children has.
     let s = setting_in f.tables.consts in
     let methods : trees c.as_slice-methods.result.now ≡ methods_of f = ap trees c.as_slice-methods.ensures in
     let texts : map text_of c.in_ok-strings.strings ≡ flat_map strings_in_method (methods_of f) = c.in_ok-strings.ensures ∙ ap (flat_map strings_in_method) methods in
-    object_made files s (items_of f.items) (methods_of f) f.dat.bytes codes c.in_ok-variables_of.field-0 c.in_ok-copy_of.field-0 c.in_ok-parts_of.field-0 c.in_ok-copies_of.field-0 c.in_ok-instances_of.field-0
+    object_made files s (items_of f.items) (methods_of f) f.dat.bytes codes c.in_ok-variables_of.field-0 c.in_ok-copy_of.field-0 c.in_ok-parts_of.field-0 c.in_ok-texts_in.field-0 c.in_ok-instances_of.field-0
     (c.in_ok-variables_of.ensures ∙ ap (λ (xs : List Item). flat_map (variable_in s) xs) (ap items_of c.as_slice-items.ensures))
     (c.in_ok-copy_of.ensures ∙ c.as_slice-2.ensures)
     (parts_made (methods_of f) codes c.in_ok-texts.texts c.in_ok-strings.strings c.as_slice.result.now c.in_ok-parts_of.field-0 texts c.as_slice.ensures c.in_ok-texts.ensures
     (c.in_ok-parts_of.ensures ∙ ap (λ (ms : List MethodTree). parts_by (number_by c.in_ok-texts.texts) ms codes) methods))
-    (words_made (methods_of f) c.in_ok-strings.strings c.as_slice-3.result.now c.in_ok-copies_of.field-0 texts c.as_slice-3.ensures c.in_ok-copies_of.ensures)
+    (words_made s (methods_of f) c.in_ok-strings.strings c.as_slice-3.result.now c.in_ok-texts_in.field-0 texts c.as_slice-3.ensures c.in_ok-texts_in.ensures)
     (c.in_ok-instances_of.ensures ∙ ap (λ (xs : List Item). flat_map (instances_of files s) (objects xs)) (ap items_of c.as_slice-items.ensures))
     ∙ object_is files source children f codes has
