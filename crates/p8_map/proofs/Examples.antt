@@ -12,6 +12,7 @@ use Rattle.p8_instr.specs.Numerals.{hex}
 use Rattle.p8_map.specs.declared.names.LocalName.{LocalName}
 use Rattle.p8_map.specs.declared.names.MethodNames.{MethodNames}
 use Rattle.p8_map.specs.declared.names.FileNames.{FileNames}
+use Rattle.p8_map.specs.Strings.{items_text}
 use Rattle.p8_map.specs.Map.{instances_within, map_of}
 
 abbrev local : List ℕ → ℕ → LocalName
@@ -111,3 +112,19 @@ blinks : map_of header (top_names ∷ blink_names ∷ []) (top ∷ blink ∷ [])
     ∷ [])
 unfolding digits hex instances_within variables_within
 blinks = refl
+
+-- a text with the end of a line, one with a quote in it, one that begins with a bell, and none
+hello : items_text (codes "Hello" ++ 13 ∷ 10 ∷ []) ≡ 34 ∷ codes "Hello" ++ 34 ∷ codes ", 13, 10"
+unfolding digits
+hello = refl
+
+said : items_text (codes "a" ++ 34 ∷ codes "b~" ++ 127 ∷ 128 ∷ []) ≡ 34 ∷ codes "a" ++ 34 ∷ codes ", 34, " ++ 34 ∷ codes "b~" ++ 34 ∷ codes ", 127, " ++ 34 ∷ 128 ∷ 34 ∷ []
+unfolding digits
+said = refl
+
+bell : items_text (7 ∷ codes "x") ≡ codes "7, " ++ 34 ∷ codes "x" ++ 34 ∷ []
+unfolding digits
+bell = refl
+
+no-text : items_text [] ≡ 34 ∷ 34 ∷ []
+no-text = refl

@@ -4,3 +4,4 @@ mod Places
 mod Inside
 mod Examples
 mod AcceptedFiles
+mod Stretches

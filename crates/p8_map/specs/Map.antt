@@ -16,6 +16,7 @@ use Rattle.p8_map.specs.declared.instances.Instance.{Instance}
 use Rattle.p8_map.specs.declared.names.LocalName.{LocalName}
 use Rattle.p8_map.specs.declared.names.MethodNames.{MethodNames}
 use Rattle.p8_map.specs.declared.names.FileNames.{FileNames}
+use Rattle.p8_map.specs.Strings.{items_text}
 
 -- ---- the header, as an image has it in its first 16 bytes
 
@@ -110,9 +111,9 @@ abbrev pub after_codes : (place : ℕ) → List MethodPart → ℕ
 after_codes place [] = place
 after_codes place (method ∷ methods) = after_codes (further place (length method.code)) methods
 
--- a text in quotes
+-- a text, as the items of a STRING
 abbrev pub text_line : (place : ℕ) → (text : List ℕ) → List ℕ
-text_line place text = hex 4 place ++ codes " string " ++ 34 ∷ text ++ 34 ∷ 10 ∷ []
+text_line place text = hex 4 place ++ codes " string " ++ items_text text ++ 10 ∷ []
 
 abbrev pub text_lines : (place : ℕ) → List (List ℕ) → List ℕ
 text_lines place [] = []

@@ -13,6 +13,7 @@ mod owners;
 mod plan;
 mod project;
 mod spelled;
+mod strings;
 mod text;
 mod variables;
 

@@ -9,6 +9,7 @@ ghost use Rattle.p8_map.specs.Map.{label_line, object_line, object_lines, object
 use crate::methods::push_methods;
 use crate::names::FileNames;
 use crate::plan::FIRST_BASE;
+use crate::strings::push_items;
 use crate::text::{further, push_place, size_word};
 use p8_image::{MethodPart, ObjectPart, Offsets};
 use p8_instr::{push_text, register_digits};
@@ -131,9 +132,9 @@ fn push_text_line(out: &mut Vec<u8>, place: u16, text: &[u8]) -> Result<(), NoMe
     ensures { OnOk result (out.new.items ≡ out.old.items ++ text_line place text.now) }
 {
     push_place(out, place)?;
-    push_text(out, b" string \"")?;
-    push_text(out, text)?;
-    push_text(out, b"\"\n")
+    push_text(out, b" string ")?;
+    push_items(out, text)?;
+    push_text(out, b"\n")
 }
 
 /// Appends the lines of texts that stand one after the other.
