@@ -35,6 +35,7 @@ says refusal.TooManyMethods = codes "The file has more than 254 methods, or more
 says refusal.ImageTooLarge = codes "The program, its variables and the first method's frame don't fit into 32,768 bytes."
 says refusal.BadClock = codes "_clkmode is no mode, or an outer clock has no frequency, or two that differ."
 says refusal.FileTooLong = codes "The file has more than 1,048,576 bytes."
+says refusal.NotCharacter = codes "An item of a text in STRING isn't from 1 to 255."
 
 -- a line that is refused so; empty, where no single line is
 abbrev pub example : Refusal → List ℕ
@@ -68,6 +69,7 @@ example refusal.TooManyMethods = codes "PRI last"
 example refusal.ImageTooLarge = codes "long a[8192]"
 example refusal.BadClock = codes "_clkmode = xtal1"
 example refusal.FileTooLong = codes ""
+example refusal.NotCharacter = codes "a := string(\"x\", 256)"
 
 -- what often mends it
 abbrev pub mends : Refusal → List ℕ
@@ -101,3 +103,4 @@ mends refusal.TooManyMethods = codes "Move methods to an object."
 mends refusal.ImageTooLarge = codes "Shorten arrays or code."
 mends refusal.BadClock = codes "An outer clock needs one of _clkfreq and _xinfreq."
 mends refusal.FileTooLong = codes "Split it into objects."
+mends refusal.NotCharacter = codes "Each number is one character; the 0 at the text's end comes by itself."

@@ -48,7 +48,7 @@ line_from line before p [] = []
 line_from line before p (c ∷ cs) = (if p.line == line then cell p c else []) ++ line_from line c (behind before p c) cs
 
 -- the line of this number, of what a file may have at most
-abbrev pub line_of : List ℕ → (line : ℕ) → List ℕ
+unfoldable pub line_of : List ℕ → (line : ℕ) → List ℕ
 line_of bytes line = line_from line 0 start (text_in bytes)
 
 -- the columns left of what is shown

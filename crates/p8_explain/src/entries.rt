@@ -51,6 +51,7 @@ pub(crate) fn says(refusal: Refusal) -> &'static str
         Refusal::BadClock =>
             "_clkmode is no mode, or an outer clock has no frequency, or two that differ.",
         Refusal::FileTooLong => "The file has more than 1,048,576 bytes.",
+        Refusal::NotCharacter => "An item of a text in STRING isn't from 1 to 255.",
     }
 }
 
@@ -90,6 +91,7 @@ pub(crate) fn example(refusal: Refusal) -> &'static str
         Refusal::ImageTooLarge => "long a[8192]",
         Refusal::BadClock => "_clkmode = xtal1",
         Refusal::FileTooLong => "",
+        Refusal::NotCharacter => "a := string(\"x\", 256)",
     }
 }
 
@@ -138,5 +140,7 @@ pub(crate) fn mends(refusal: Refusal) -> &'static str
         Refusal::ImageTooLarge => "Shorten arrays or code.",
         Refusal::BadClock => "An outer clock needs one of _clkfreq and _xinfreq.",
         Refusal::FileTooLong => "Split it into objects.",
+        Refusal::NotCharacter =>
+            "Each number is one character; the 0 at the text's end comes by itself.",
     }
 }

@@ -225,7 +225,7 @@ fn push_end(
     Ok(())
 }
 
-/// What a refusal says to a person, of a file of this name and these bytes, with its number, from 1 to 30, its place and the size of
+/// What a refusal says to a person, of a file of this name and these bytes, with its number, from 1 to 31, its place and the size of
 /// what is too large: the name of the file, the place and the refusal's name, the line with a mark under the place, by how much it
 /// is too large, what is wrong and what often mends it; and of what is most likely a pin script, where that is told. Of a long line some 100 columns
 /// are shown. The only error is want of memory.
@@ -288,7 +288,7 @@ pub fn absence(
     Ok(out)
 }
 
-/// The entry of a refusal's number, from 1 to 30: its name, what is wrong, what often mends it, and an example. The only
+/// The entry of a refusal's number, from 1 to 31: its name, what is wrong, what often mends it, and an example. The only
 /// error is want of memory.
 pub fn entry(alloc: Global, number: u8) -> Result<Vec<u8>, NoMemory>
     ensures { IfOk result (λ text. text.items ≡ entry_of number) }

@@ -62,6 +62,7 @@ fn line_from(alloc: Global, line: u32, text: &Characters) -> Result<Vec<u8>, NoM
 }
 
 /// What a line of a file shows.
+#[tactic(auto, unfolding(crate::specs::Explaining::line_of))]
 pub(crate) fn line_of(alloc: Global, bytes: &[u8], line: u32) -> Result<Vec<u8>, NoMemory>
     ensures { IfOk result (λ v. v.items ≡ line_of bytes.now line) }
 {

@@ -14,7 +14,7 @@ use Rattle.p8_tree.specs.declared.statements.StmtKind as stmt_kind
 use Rattle.p8_tree.specs.declared.statements.StmtKind.TheVariants as stmt_case
 use Rattle.p8_tree.specs.declared.statements.Loop as loop
 use Rattle.p8_tree.specs.Views.{tree_of, trees_of, form_of, item_of, items_of, course_of, action_of, statement_of, statements_of, arm_of, arms_of}
-use Rattle.p8_tree.specs.Bridges.{trees_of-push, items_of-push, statements_of-push, arms_of-push, tree_list_of, item_list_of, other_body, built_is, arm_is, if_is, case_is, repeat_is}
+use Rattle.p8_tree.specs.Bridges.{trees_of-push, items_of-push, statements_of-push, arms_of-push, tree_list_of, item_list_of, other_body, strings_is, built_is, arm_is, if_is, case_is, repeat_is}
 use Rattle.p8_hint.specs.Spots.{Spot, in_tree, in_form, in_item, in_trees, in_items, in_condition, built, before_body, behind_body, bare_of, behind_of, in_block, in_statement, in_action, in_arms, in_arm, in_cases, in_choice, in_otherwise}
 use Rattle.std.specs.Prelude.{option_map}
 use Rattle.p8_tree.specs.Statements.{arm}
@@ -82,6 +82,9 @@ three s x y z e f g =
     g ∙ ap (λ s. s ++ z) (f ∙ ap (λ s. s ++ y) e ∙ append_assoc s x y) ∙ append_assoc s (x ++ y) z ∙ ap (λ m. s ++ m) (append_assoc x y z)
 
 -- ---- forms
+
+pub strings_spots : (v : Vec expr.Expr Global) → in_form (form_of (kind_case.Strings v)) ≡ in_trees (trees_of v.items)
+strings_spots v = ap in_form (strings_is v)
 
 pub built_spots : (code : ℕ) (v : Vec expr.Expr Global) → in_form (form_of (kind_case.Built code v)) ≡ in_trees (trees_of v.items) ++ built code (map tree_of v.items)
 built_spots code v = ap in_form (built_is code v) ∙ ap (λ ts. in_trees (trees_of v.items) ++ built code ts) (tree_list_of v.items)

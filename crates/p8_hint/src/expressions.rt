@@ -18,6 +18,7 @@ pub(crate) fn put_tree<'a>(expr: &'a Expr, spots: &mut Vec<Spot<'a>>) -> Result<
     match &expr.kind {
         ExprKind::Number(_) => Ok(()),
         ExprKind::Str(_) => Ok(()),
+        ExprKind::Strings(items) => put_trees(items, spots),
         ExprKind::Here => Ok(()),
         ExprKind::ObjConst(_, _, _) => Ok(()),
         ExprKind::Var(variable) => put_variable(variable, spots),

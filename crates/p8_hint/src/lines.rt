@@ -22,6 +22,7 @@ pub struct Lines {
 impl Lines {
     /// The lines of a file, of what a file may have at most. It takes time and memory in proportion to the file. The only error is
     /// want of memory.
+    #[tactic(auto, unfolding(p8_explain::specs::Explaining::line_of))]
     pub fn of(alloc: Global, bytes: &[u8]) -> Result<Lines, NoMemory>
         ensures { IfOk result (λ lines. (line : ℕ) → shown_line lines line ≡ line_of bytes.now line) }
     {

@@ -104,6 +104,7 @@ fn put_test(hints: &mut Vec<Hint>, facts: &FileFacts, test: &Expr) -> Result<(),
         }
         ExprKind::Number(_) => Ok(()),
         ExprKind::Str(_) => Ok(()),
+        ExprKind::Strings(_) => Ok(()),
         ExprKind::Here => Ok(()),
         ExprKind::Var(_) => Ok(()),
         ExprKind::Call(_) => Ok(()),

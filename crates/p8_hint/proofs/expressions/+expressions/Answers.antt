@@ -5,12 +5,16 @@ use Rattle.p8_tree.specs.Bridges.{look_is}
 use Rattle.p8_kinds.proofs.ValueRows.{call_form}
 use Rattle.p8_hint.specs.Spots.{in_form}
 use Rattle.p8_hint.specs.SpotViews.{spots_of}
-use Rattle.p8_hint.proofs.Rows.{trees_next, items_next, built_spots}
+use Rattle.p8_hint.proofs.Rows.{trees_next, items_next, strings_spots, built_spots}
 use Rattle.p8_hint.proofs.expressions.+expressions.Goals as goal
 
 pub put_call-returns : goal.put_call-returns
 put_call-returns t c =
     subst (λ f. OnOk c.put_trees.result (spots_of c.put_trees.new.spots.items ≡ spots_of c.args.spots.now.items ++ in_form f)) (sym (call_form c.args.call.now)) (grind (arith, common_steps))
+
+pub put_tree-returns-in-Strings : goal.put_tree-returns-in-Strings
+put_tree-returns-in-Strings t c =
+    subst (λ m. OnOk c.put_trees.result (spots_of c.put_trees.new.spots.items ≡ spots_of c.args.spots.now.items ++ m)) (sym (ap (λ k. in_form (form_of k)) c.in-Strings.is ∙ strings_spots c.in-Strings.items)) (grind (arith, common_steps))
 
 pub put_tree-returns-in_ok-put_trees-in-Built : goal.put_tree-returns-in_ok-put_trees-in-Built
 put_tree-returns-in_ok-put_trees-in-Built t c =
