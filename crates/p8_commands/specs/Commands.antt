@@ -11,7 +11,7 @@ use Rattle.p8_commands.specs.declared.table.Subcommand.{Subcommand}
 use Rattle.p8_commands.specs.declared.table.Subcommand.TheVariants as named
 use Rattle.p8_commands.specs.declared.kind.ImageKind.{ImageKind}
 use Rattle.p8_commands.specs.Kinds.{kind_named}
-use Rattle.p8_commands.specs.Numbers.{is_digit, number_of, number_from, range_of, cog_of, refusal_of, most_clocks, most_turns, usual_turns, most_saved_turns, last_pin, least_bits, most_bits, most_seed}
+use Rattle.p8_commands.specs.Numbers.{is_digit, number_of, number_from, range_of, cog_of, refusal_of, most_clocks, most_shown_clocks, most_turns, usual_turns, most_saved_turns, last_pin, least_bits, most_bits, most_seed}
 use Rattle.p8_commands.specs.Pins.{mask_of, span_by, span_of}
 use Rattle.p8_commands.specs.Table.{entry_of, app_for, subcommand_named}
 
@@ -87,21 +87,25 @@ run_by (Some file) (Some clocks) script (Some turns) (Some dump) =
     Some (record { file = file; clocks = clocks; script = script; turns = turns; dump = dump })
 run_by _ _ script _ _ = None
 
--- a run by the arguments that every run has, with the value of `--dump`, if any; `most` turns may be asked for, and `usual` are where none is
-abbrev pub run_of : (most usual : ℕ) → (dump : Option Text) → (Text → Option Text) → Option Running
-run_of most usual dump value =
-    run_by (value (codes "FILE")) (option_and_then (number_of most_clocks) (value (codes "CLOCKS")))
+-- a run by the arguments that every run has, with the value of `--dump`, if any; so many clocks and `most` turns may be asked for, and `usual`
+-- turns are where none is
+abbrev pub run_of : (clocks most usual : ℕ) → (dump : Option Text) → (Text → Option Text) → Option Running
+run_of clocks most usual dump value =
+    run_by (value (codes "FILE")) (option_and_then (number_of clocks) (value (codes "CLOCKS")))
     (value (codes "pins")) (number_by most usual (value (codes "turns"))) (dump_by dump)
 
--- a run that is traced, one that is saved, and one of which another thing is told
+-- a run that is traced, one that is saved, one of which the bytes on a pin are read, and one that is shown as a wave, a picture or a view
 abbrev pub traced_of : (Text → Option Text) → Option Running
-traced_of value = run_of most_turns usual_turns (value (codes "dump")) value
+traced_of value = run_of most_clocks most_turns usual_turns (value (codes "dump")) value
 
 abbrev pub saved_of : (Text → Option Text) → Option Running
-saved_of value = run_of most_saved_turns most_saved_turns None value
+saved_of value = run_of most_clocks most_saved_turns most_saved_turns None value
 
-abbrev pub told_of : (Text → Option Text) → Option Running
-told_of value = run_of most_turns usual_turns None value
+abbrev pub read_of : (Text → Option Text) → Option Running
+read_of value = run_of most_clocks most_turns usual_turns None value
+
+abbrev pub shown_of : (Text → Option Text) → Option Running
+shown_of value = run_of most_shown_clocks most_turns usual_turns None value
 
 -- a flag with this value is given
 abbrev pub is_given : Option Text → Bool
@@ -130,7 +134,7 @@ serial_by raw (Some run) (Some pin) (Some bits) = Some (Serial raw run pin bits)
 serial_by raw _ _ _ = None
 
 abbrev pub serial_of : (Text → Option Text) → Option Command
-serial_of value = serial_by (has_flag (codes "raw") value) (told_of value) (pin_of value) (bits_of value)
+serial_of value = serial_by (has_flag (codes "raw") value) (read_of value) (pin_of value) (bits_of value)
 
 abbrev pub type_by : Option Text → (pin bits start : Option ℕ) → Option Command
 type_by (Some file) (Some pin) (Some bits) (Some start) = Some (TypeFile file pin bits start)
@@ -155,7 +159,7 @@ plot_by alone raw ascii _ _ clocks = None
 abbrev pub plot_of : (Text → Option Text) → Option Command
 plot_of value =
     plot_by (has_flag (codes "alone") value) (has_flag (codes "raw") value) (has_flag (codes "ascii") value)
-    (told_of value) (option_and_then mask_of (value (codes "PINS"))) (value (codes "FROM:TO"))
+    (shown_of value) (option_and_then mask_of (value (codes "PINS"))) (value (codes "FROM:TO"))
 
 -- the cog that is shown, by the value of `--cog`; all of them where that isn't given
 abbrev pub cog_by : Option Text → Option (Option ℕ)
@@ -182,7 +186,7 @@ view_by raw pins_only quiet _ _ from to dump = None
 abbrev pub view_of : (Text → Option Text) → Option Command
 view_of value =
     view_by (has_flag (codes "raw") value) (has_flag (codes "pins-only") value) (has_flag (codes "quiet") value)
-    (told_of value) (cog_by (value (codes "cog"))) (value (codes "from")) (value (codes "to")) (value (codes "dump"))
+    (shown_of value) (cog_by (value (codes "cog"))) (value (codes "from")) (value (codes "to")) (value (codes "dump"))
 
 -- what is to be explained: a word of digits alone is the number of a refusal, and never a file; a word without a byte is a file
 abbrev pub explain_of : Text → Option Command
@@ -215,7 +219,7 @@ meaning_of named.Serial value = serial_of value
 meaning_of named.TypeFile value = type_of value
 meaning_of named.Wave value =
     option_map (Wave (has_flag (codes "alone") value) (has_flag (codes "raw") value) (has_flag (codes "all") value) (has_flag (codes "pins-only") value))
-    (told_of value)
+    (shown_of value)
 meaning_of named.Plot value = plot_of value
 meaning_of named.View value = view_of value
 meaning_of named.Convert value = option_and_then convert_of (value (codes "FILE"))

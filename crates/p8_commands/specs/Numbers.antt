@@ -4,7 +4,7 @@ use Rattle.std.specs.List.{list_all}
 
 -- the number of the last refusal of a source
 abbrev pub last_refusal : ℕ
-last_refusal = 30
+last_refusal = 31
 
 -- a decimal digit
 abbrev pub is_digit : ℕ → Bool
@@ -71,9 +71,13 @@ range_of (a ∷ b ∷ c ∷ d ∷ colon ∷ count) =
     else None
 range_of _ = None
 
--- the greatest number of clocks of a run
+-- the greatest number of clocks of a run that is traced or saved, or of which bytes are read, and the greatest clock at which bytes are sent
 abbrev pub most_clocks : ℕ
 most_clocks = 100000000
+
+-- the greatest number of clocks of a run that is shown, as a wave, a picture or a view: 50 seconds at 80 MHz
+abbrev pub most_shown_clocks : ℕ
+most_shown_clocks = 4000000000
 
 -- the greatest number of turns that may be asked for, and how many a run makes at most where none is
 abbrev pub most_turns : ℕ

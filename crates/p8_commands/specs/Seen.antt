@@ -13,7 +13,7 @@ use Rattle.p8_commands.specs.declared.command.Dump.TheVariants as dumped
 use Rattle.p8_commands.specs.Commands.{Command, Dump, RangeOf, Named, Running, BuildSource, ListSource, MapSource, ExplainFile, ExplainNumber, HintSource, RunMemory, RunProgram, Save, Check, Serial, TypeFile, Wave, Plot, ViewRun, Convert, Make, Help}
 use Rattle.p8_commands.specs.Table.{Argument, Entry}
 use Rattle.p8_commands.specs.Naming.{name_of}
-use Rattle.p8_commands.specs.Numbers.{most_clocks, most_turns, most_saved_turns, last_cog, last_pin, last_refusal, least_bits, most_bits}
+use Rattle.p8_commands.specs.Numbers.{most_clocks, most_shown_clocks, most_turns, most_saved_turns, last_cog, last_pin, last_refusal, least_bits, most_bits}
 use Rattle.p8_commands.specs.Ranges.{IsInRam}
 
 abbrev pub argument_of : ArgumentHeld → Argument
@@ -67,7 +67,7 @@ run_if_any (Some run) = Some (running run)
 
 -- the numbers keep their limits
 abbrev pub IsWithin : RunRead → Type 0
-IsWithin run = (run.clocks ≤ most_clocks) × (run.turns ≤ most_turns) × IsInRam run.dump
+IsWithin run = (run.clocks ≤ most_shown_clocks) × (run.turns ≤ most_turns) × IsInRam run.dump
 
 abbrev pub IsOnPin : (pin bits : ℕ) → Type 0
 IsOnPin pin bits = (pin ≤ last_pin) × (least_bits ≤ bits) × (bits ≤ most_bits)
@@ -79,7 +79,7 @@ IsDumpInRam _ = Unit {0}
 abbrev pub HasLimits : CommandRead → Type 0
 HasLimits (read.Raw run) = IsWithin run
 HasLimits (read.Run alone short run) = IsWithin run
-HasLimits (read.Save raw run) = IsWithin run × (run.turns ≤ most_saved_turns)
+HasLimits (read.Save raw run) = IsWithin run × (run.clocks ≤ most_clocks) × (run.turns ≤ most_saved_turns)
 HasLimits (read.Serial raw run pin bits) = IsWithin run × IsOnPin pin bits
 HasLimits (read.Wave alone raw all pins_only run) = IsWithin run
 HasLimits (read.Plot alone raw ascii run pins from to) = IsWithin run

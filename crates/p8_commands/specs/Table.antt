@@ -41,6 +41,10 @@ source_file = operand (codes "FILE") (codes "the top file of a project, a source
 abbrev pub clocks : Argument
 clocks = operand (codes "CLOCKS") (codes "no turn is made at this clock or later: 1 to 10 digits, at most 100000000")
 
+-- those of a run that is shown
+abbrev pub shown_run_clocks : Argument
+shown_run_clocks = operand (codes "CLOCKS") (codes "no turn is made at this clock or later: 1 to 10 digits, at most 4000000000")
+
 abbrev pub pins : Argument
 pins =
     valued (codes "pins") (codes "F")
@@ -87,7 +91,7 @@ shown_clocks =
     (codes "the clocks to draw, from FROM on and before TO: each 1 to 10 digits, FROM at most TO, and TO at most CLOCKS; else all")
 
 abbrev pub explained : Argument
-explained = operand (codes "WORD") (codes "the top file of a project, a source in Spin; or the number of a refusal, 1 or 2 digits, from 1 to 30")
+explained = operand (codes "WORD") (codes "the top file of a project, a source in Spin; or the number of a refusal, 1 or 2 digits, from 1 to 31")
 
 abbrev pub cog : Argument
 cog = valued (codes "cog") (codes "N") (codes "shows what this cog does alone: 1 digit, from 0 to 7")
@@ -190,20 +194,20 @@ entry_of named.TypeFile = record {
 }
 entry_of named.Wave = record {
   word = codes "wave";
-  arguments = any_file ∷ clocks ∷ pins ∷ turns ∷ raw ∷ flag (codes "all") (codes "shows what never changes too") ∷ pins_only ∷ alone ∷ [];
+  arguments = any_file ∷ shown_run_clocks ∷ pins ∷ turns ∷ raw ∷ flag (codes "all") (codes "shows what never changes too") ∷ pins_only ∷ alone ∷ [];
   about = codes "Runs a file up to a clock, and writes the wave of its pins, cogs and locks as a value change dump.";
   examples = codes "prop wave blink.spin 200000 > blink.vcd" ∷ codes "prop wave blink.spin 200000 --all --pins-only" ∷ [];
 }
 entry_of named.Plot = record {
   word = codes "plot";
-  arguments = any_file ∷ clocks ∷ shown_pins ∷ shown_clocks ∷ pins ∷ turns ∷ raw ∷ flag (codes "ascii") (codes "draws with characters of ASCII alone") ∷ alone ∷ [];
+  arguments = any_file ∷ shown_run_clocks ∷ shown_pins ∷ shown_clocks ∷ pins ∷ turns ∷ raw ∷ flag (codes "ascii") (codes "draws with characters of ASCII alone") ∷ alone ∷ [];
   about = codes "Runs a file up to a clock, and draws the levels of some pins as text, a line for each pin.";
   examples = codes "prop plot blink.spin 200000 16" ∷ codes "prop plot blink.spin 200000 0,16-23 1000:9000 --ascii" ∷ [];
 }
 entry_of named.View = record {
   word = codes "view";
   arguments =
-      any_file ∷ clocks ∷ pins ∷ turns ∷ flag (codes "alone") (codes "changes nothing: one thread makes all turns in any case") ∷ raw ∷ cog ∷ from ∷ to
+      any_file ∷ shown_run_clocks ∷ pins ∷ turns ∷ flag (codes "alone") (codes "changes nothing: one thread makes all turns in any case") ∷ raw ∷ cog ∷ from ∷ to
       ∷ flag (codes "pins-only") (codes "shows what changes pins alone") ∷ flag (codes "quiet") (codes "shows no turn, and tells the end alone") ∷ named_dump ∷ [];
   about = codes "Runs a file up to a clock, and writes its history for reading, with the names and the lines of a source, and what each cog does in the end.";
   examples = codes "prop view blink.spin 20000 --cog 1" ∷ codes "prop view blink.spin 200000 --quiet --dump ser.rx_head" ∷ [];

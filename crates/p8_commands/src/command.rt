@@ -10,7 +10,7 @@ use crate::table::Subcommand;
 #[derive(Clone, Copy)]
 pub struct Run<'a> {
     pub file: &'a str,
-    /// No turn is made at this clock or later; at most 100,000,000.
+    /// No turn is made at this clock or later; at most 4,000,000,000, and 100,000,000 where the run isn't shown as a wave, a picture or a view.
     pub clocks: u64,
     /// The file of a pin script.
     pub script: Option<&'a str>,
@@ -52,7 +52,7 @@ pub enum Command<'a> {
     },
     /// Tells a refusal.
     ExplainNumber {
-        /// Its number, 1 to 30.
+        /// Its number, 1 to 31.
         number: u8,
     },
     /// Hints at what is accepted in a source and is most likely a slip.

@@ -7,7 +7,7 @@ ghost use Rattle.p8_commands.specs.Numbers.{address_by, hexadecimal_digit as hex
 ghost use Rattle.p8_commands.specs.Ranges.{IsInRam};
 
 /// The number of the last refusal of a source.
-const LAST_REFUSAL: u64 = 30;
+const LAST_REFUSAL: u64 = 31;
 
 /// The number of some decimal digits, or None where it is above a limit or another byte is among them.
 fn value_of(digits: &[u8], limit: u64) -> Option<u64>

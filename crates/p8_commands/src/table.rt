@@ -92,6 +92,13 @@ const CLOCKS: Argument = Argument {
     about: "no turn is made at this clock or later: 1 to 10 digits, at most 100000000",
 };
 
+const SHOWN_RUN_CLOCKS: Argument = Argument {
+    kind: ArgumentKind::Operand,
+    name: "CLOCKS",
+    value: "",
+    about: "no turn is made at this clock or later: 1 to 10 digits, at most 4000000000",
+};
+
 const PINS: Argument = Argument {
     kind: ArgumentKind::Valued,
     name: "pins",
@@ -229,7 +236,7 @@ const EXPLAINED: Argument = Argument {
     kind: ArgumentKind::Operand,
     name: "WORD",
     value: "",
-    about: "the top file of a project, a source in Spin; or the number of a refusal, 1 or 2 digits, from 1 to 30",
+    about: "the top file of a project, a source in Spin; or the number of a refusal, 1 or 2 digits, from 1 to 31",
 };
 
 const COG: Argument = Argument {
@@ -429,7 +436,16 @@ impl Subcommand {
             },
             Subcommand::Wave => Row {
                 word: "wave",
-                arguments: &[ANY_FILE, CLOCKS, PINS, TURNS, RAW, ALL, PINS_ONLY, ALONE],
+                arguments: &[
+                    ANY_FILE,
+                    SHOWN_RUN_CLOCKS,
+                    PINS,
+                    TURNS,
+                    RAW,
+                    ALL,
+                    PINS_ONLY,
+                    ALONE,
+                ],
                 about: "Runs a file up to a clock, and writes the wave of its pins, cogs and locks as a value change dump.",
                 examples: &[
                     "prop wave blink.spin 200000 > blink.vcd",
@@ -440,7 +456,7 @@ impl Subcommand {
                 word: "plot",
                 arguments: &[
                     ANY_FILE,
-                    CLOCKS,
+                    SHOWN_RUN_CLOCKS,
                     SHOWN_PINS,
                     SHOWN_CLOCKS,
                     PINS,
@@ -459,7 +475,7 @@ impl Subcommand {
                 word: "view",
                 arguments: &[
                     ANY_FILE,
-                    CLOCKS,
+                    SHOWN_RUN_CLOCKS,
                     PINS,
                     TURNS,
                     ALONE_IN_ANY_CASE,

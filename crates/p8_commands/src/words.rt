@@ -3,9 +3,9 @@ ghost use Rattle.std.specs.Prelude.{◌≡◌, ◌≤◌, Some, None, codes, map
 ghost use Rattle.std.specs.Option.{ForSome};
 ghost use Rattle.clap.specs.Matches.{first_value, found_of};
 ghost use Rattle.p8_commands.specs.Commands.{command_of, said_to, meaning_of, run_of, traced_of, saved_of, number_by};
-ghost use Rattle.p8_commands.specs.Commands.{dump_by, is_given as is_given_by, has_flag as has_flag_by, check_of, told_of, pin_of, bits_of, serial_of, type_of, program_of, plot_of, cog_by, dumped_of, shown_by, view_of, explain_of, seed_of, topic_of, convert_of};
+ghost use Rattle.p8_commands.specs.Commands.{dump_by, is_given as is_given_by, has_flag as has_flag_by, check_of, read_of, shown_of, pin_of, bits_of, serial_of, type_of, program_of, plot_of, cog_by, dumped_of, shown_by, view_of, explain_of, seed_of, topic_of, convert_of};
 ghost use Rattle.p8_commands.specs.Naming.{name_of};
-ghost use Rattle.p8_commands.specs.Numbers.{most_saved_turns, most_seed, most_turns, last_cog, last_pin, least_bits, most_bits};
+ghost use Rattle.p8_commands.specs.Numbers.{most_clocks, most_saved_turns, most_seed, most_shown_clocks, most_turns, last_cog, last_pin, least_bits, most_bits};
 ghost use Rattle.p8_commands.specs.Ranges.{IsInRam};
 ghost use Rattle.p8_commands.specs.Seen.{command_if_any, dump_if_any, run_if_any, running, IsDumpInRam, IsWithin, HasLimits};
 
@@ -19,8 +19,11 @@ use clap::ArgMatches;
 use p8_words::NoMemory;
 use std::alloc::Global;
 
-/// The greatest number of clocks of a run.
+/// The greatest number of clocks of a run that is traced or saved, or of which bytes are read, and the greatest clock at which bytes are sent.
 const MOST_CLOCKS: u64 = 100_000_000;
+
+/// The greatest number of clocks of a run that is shown, as a wave, a picture or a view.
+const MOST_SHOWN_CLOCKS: u64 = 4_000_000_000;
 
 /// The greatest number of turns that may be asked for.
 const MOST_TURNS: u64 = 1_000_000;
@@ -67,18 +70,21 @@ fn dump_in(value: Option<&str>) -> Option<Option<(u16, u16)>>
 /// spelling.
 fn run_in<'a>(
     matches: &ArgMatches<'a>,
+    clocks: u64,
     most: u64,
     usual: u64,
     dump: Option<&str>,
 ) -> Option<Run<'a>>
+    requires clocks { clocks ≤ most_shown_clocks }
     requires most { most ≤ most_turns }
     requires usual { usual ≤ most }
-    ensures seen { run_if_any result ≡ run_of most usual (name_of dump.entry) (first_value (found_of matches.now)) }
+    ensures seen { run_if_any result ≡ run_of clocks most usual (name_of dump.entry) (first_value (found_of matches.now)) }
     ensures within { IfSome result IsWithin }
+    ensures clocks { IfSome result (λ run. run.clocks ≤ clocks) }
     ensures turns { IfSome result (λ run. run.turns ≤ most) }
 {
     let file = matches.get_str("FILE")?;
-    let clocks = number_in(matches.get_str("CLOCKS")?.as_bytes(), MOST_CLOCKS)?;
+    let clocks = number_in(matches.get_str("CLOCKS")?.as_bytes(), clocks)?;
     let turns = number_or(matches.get_str("turns"), most, usual)?;
     let dump = dump_in(dump)?;
     Some(Run {
@@ -95,24 +101,45 @@ fn traced_in<'a>(matches: &ArgMatches<'a>) -> Option<Run<'a>>
     ensures seen { run_if_any result ≡ traced_of (first_value (found_of matches.now)) }
     ensures within { IfSome result IsWithin }
 {
-    run_in(matches, MOST_TURNS, USUAL_TURNS, matches.get_str("dump"))
+    run_in(
+        matches,
+        MOST_CLOCKS,
+        MOST_TURNS,
+        USUAL_TURNS,
+        matches.get_str("dump"),
+    )
 }
 
 /// A run that is saved.
 fn saved_in<'a>(matches: &ArgMatches<'a>) -> Option<Run<'a>>
     ensures seen { run_if_any result ≡ saved_of (first_value (found_of matches.now)) }
     ensures within { IfSome result IsWithin }
+    ensures clocks { IfSome result (λ run. run.clocks ≤ most_clocks) }
     ensures turns { IfSome result (λ run. run.turns ≤ most_saved_turns) }
 {
-    run_in(matches, MOST_SAVED_TURNS, MOST_SAVED_TURNS, None)
+    run_in(
+        matches,
+        MOST_CLOCKS,
+        MOST_SAVED_TURNS,
+        MOST_SAVED_TURNS,
+        None,
+    )
 }
 
-/// A run of which another thing than its trace is told.
-fn told_in<'a>(matches: &ArgMatches<'a>) -> Option<Run<'a>>
-    ensures seen { run_if_any result ≡ told_of (first_value (found_of matches.now)) }
+/// A run of which the bytes on a pin are read.
+fn read_in<'a>(matches: &ArgMatches<'a>) -> Option<Run<'a>>
+    ensures seen { run_if_any result ≡ read_of (first_value (found_of matches.now)) }
     ensures within { IfSome result IsWithin }
 {
-    run_in(matches, MOST_TURNS, USUAL_TURNS, None)
+    run_in(matches, MOST_CLOCKS, MOST_TURNS, USUAL_TURNS, None)
+}
+
+/// A run that is shown, as a wave, a picture or a view.
+fn shown_in<'a>(matches: &ArgMatches<'a>) -> Option<Run<'a>>
+    ensures seen { run_if_any result ≡ shown_of (first_value (found_of matches.now)) }
+    ensures within { IfSome result IsWithin }
+{
+    run_in(matches, MOST_SHOWN_CLOCKS, MOST_TURNS, USUAL_TURNS, None)
 }
 
 /// Whether a flag with this value is given.
@@ -171,7 +198,7 @@ fn serial_in<'a>(matches: &ArgMatches<'a>) -> Option<Command<'a>>
 {
     Some(Command::Serial {
         raw: has_flag(matches, "raw"),
-        run: told_in(matches)?,
+        run: read_in(matches)?,
         pin: pin_in(matches)?,
         bits: bits_in(matches)?,
     })
@@ -207,7 +234,7 @@ fn plot_in<'a>(matches: &ArgMatches<'a>) -> Option<Command<'a>>
     ensures seen { command_if_any result ≡ plot_of (first_value (found_of matches.now)) }
     ensures within { IfSome result HasLimits }
 {
-    let run = told_in(matches)?;
+    let run = shown_in(matches)?;
     let pins = mask_in(matches.get_str("PINS")?.as_bytes())?;
     let (from, to) = span_in(matches.get_str("FROM:TO"), run.clocks)?;
     Some(Command::Plot {
@@ -257,7 +284,7 @@ fn view_in<'a>(matches: &ArgMatches<'a>) -> Option<Command<'a>>
     ensures seen { command_if_any result ≡ view_of (first_value (found_of matches.now)) }
     ensures within { IfSome result HasLimits }
 {
-    let run = told_in(matches)?;
+    let run = shown_in(matches)?;
     let cog = shown_cog(matches.get_str("cog"))?;
     let (from, to) = shown_clocks(matches.get_str("from"), matches.get_str("to"), run.clocks)?;
     Some(Command::View {
@@ -355,7 +382,7 @@ fn meaning_in<'a>(command: Subcommand, matches: &ArgMatches<'a>) -> Option<Comma
             raw: has_flag(matches, "raw"),
             all: has_flag(matches, "all"),
             pins_only: has_flag(matches, "pins-only"),
-            run: told_in(matches)?,
+            run: shown_in(matches)?,
         }),
         Subcommand::Plot => plot_in(matches),
         Subcommand::View => view_in(matches),

@@ -89,7 +89,7 @@ impl Desk {
     /// A desk and the passes of its eight cogs, before the first turn. All memory of the run is taken here, the log of
     /// `limits.turns` turns and the operand stacks of Spin in one region.
     pub fn open(alloc: Global, start: Start) -> Result<(Desk, Passes), NoMemory>
-        requires clocks { start.limits.clocks ≤ 100000000 }
+        requires clocks { start.limits.clocks ≤ 4000000000 }
         requires turns { start.limits.turns ≤ 1000000 }
         requires first { IsProperOrigin start.boot.first }
         ensures world { IfOk result (λ opened. opened.0.world ≡ world_of start.boot start.script start.limits) }

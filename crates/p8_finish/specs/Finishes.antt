@@ -32,12 +32,12 @@ IsWhole (Serial pin bits) w past = Unit {0}
 IsWhole (Wave selection) w past = Unit {0}
 IsWhole (Plot view) w past = Unit {0}
 
--- It can be told: the range of a dump is in hub RAM, and isn't empty; a history that is saved has at most 40,000 turns by its limit; there is such a
--- pin, and such a bit.
-abbrev pub CanBeTold : Finish → (turns : ℕ) → Type 0
-CanBeTold (Trace dump) turns = ForSome dump (λ range. 1 ≤ range.1) × ForSome dump (λ range. range.0 + range.1 ≤ 32768)
-CanBeTold (Summary seed) turns = Unit {0}
-CanBeTold Saved turns = turns ≤ 40000
-CanBeTold (Wave selection) turns = Unit {0}
-CanBeTold (Plot view) turns = Unit {0}
-CanBeTold (Serial pin bits) turns = (pin < 32) × IsRate bits
+-- It can be told: the range of a dump is in hub RAM, and isn't empty; a history that is saved has at most 100,000,000 clocks and 40,000 turns by its
+-- limits; there is such a pin, and such a bit.
+abbrev pub CanBeTold : Finish → (clocks turns : ℕ) → Type 0
+CanBeTold (Trace dump) clocks turns = ForSome dump (λ range. 1 ≤ range.1) × ForSome dump (λ range. range.0 + range.1 ≤ 32768)
+CanBeTold (Summary seed) clocks turns = Unit {0}
+CanBeTold Saved clocks turns = (clocks ≤ 100000000) × (turns ≤ 40000)
+CanBeTold (Wave selection) clocks turns = Unit {0}
+CanBeTold (Plot view) clocks turns = Unit {0}
+CanBeTold (Serial pin bits) clocks turns = (pin < 32) × IsRate bits

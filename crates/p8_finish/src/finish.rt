@@ -52,16 +52,14 @@ fn picture(
 
 /// What is told of a history that has ended, with the pin script that it was made with.
 ///
-/// A dump isn't empty, and is in hub RAM. A history that is saved has at most 40,000 turns by its limits, and each has at most 100,000,000
-/// clocks. A pin is at most 31, and a bit has 2 to 10,000 clocks. The only error is want of memory.
+/// A dump isn't empty, and is in hub RAM. A history that is saved has at most 100,000,000 clocks and 40,000 turns by its limits. A pin is at most 31, and a bit has 2 to 10,000 clocks. The only error is want of memory.
 pub fn told(
     alloc: Global,
     ended: &Ended,
     script: &PinScript,
     finish: Finish,
 ) -> Result<Vec<u8>, NoMemory>
-    requires can { CanBeTold finish ended.now.history.limits.turns }
-    requires clocks { ended.now.history.limits.clocks ≤ 100000000 }
+    requires can { CanBeTold finish ended.now.history.limits.clocks ended.now.history.limits.turns }
     requires ended { HasEnded asks (world_of ended.now.history.boot script.now ended.now.history.limits) (reverse ended.now.history.turns.list) }
     requires hub { IsHub (world_of ended.now.history.boot script.now ended.now.history.limits) (reverse ended.now.history.turns.list) ended.now.hub }
     ensures text { IfOk result (λ text. text.items

@@ -77,7 +77,7 @@ pub struct Ledger {
     /// The span of the script in which a turn was found, where that was looked for last. It only saves searching: none
     /// of what is proved rests on it.
     span: Span,
-    ghost clocks: { limits.clocks ≤ 100000000 },
+    ghost clocks: { limits.clocks ≤ 4000000000 },
     ghost room: { turns.room ≡ limits.turns },
     ghost small: { IfSome (newest_key (reverse turns.list)) (λ key. key.clock < 2 ^ 61) } by { Prim.hlevel props },
     ghost eight: { length sayings ≡ 8 },
@@ -112,7 +112,7 @@ impl Ledger {
     ///
     /// `NoMemory` where there is no memory for the hub.
     pub fn open(alloc: Global, start: &Start, log: Strip<Turn>) -> Result<Ledger, NoMemory>
-        requires clocks { start.now.limits.clocks ≤ 100000000 }
+        requires clocks { start.now.limits.clocks ≤ 4000000000 }
         requires first { IsProperOrigin start.now.boot.first }
         requires log { log ≡ bounded [] start.now.limits.turns }
         ensures { IfOk result (λ ledger. Found (world_of start.now.boot start.now.script start.now.limits) ledger []) }
@@ -171,7 +171,7 @@ impl Ledger {
     #[inline]
     pub fn limit(&self) -> u64
         ensures limit { result ≡ self.now.limits.clocks }
-        ensures small { result ≤ 100000000 }
+        ensures small { result ≤ 4000000000 }
     {
         self.limits.clocks
     }

@@ -6,7 +6,7 @@ use p8_hub::Hub;
 use p8_region::Strip;
 
 /// The limits of a run: no turn is made at the clock `clocks` or later, and at most `turns` are made.
-/// `clocks` is at most 100,000,000 and `turns` at most 1,000,000 wherever a call takes them.
+/// `clocks` is at most 4,000,000,000 and `turns` at most 1,000,000 wherever a call takes them.
 #[derive(Clone, Copy, Debug, PartialEq, Eq)]
 pub struct Limits {
     pub clocks: u64,

@@ -81,7 +81,7 @@ pub fn run_counted(
     script: PinScript,
     limits: Limits,
 ) -> Result<Counted, NoMemory>
-    requires clocks { limits.clocks ≤ 100000000 }
+    requires clocks { limits.clocks ≤ 4000000000 }
     requires turns { limits.turns ≤ 1000000 }
     requires first { IsProperOrigin boot.first }
     ensures world { IfOk result (λ counted. world_of counted.ended.history.boot script counted.ended.history.limits ≡ world_of boot script limits) }

@@ -40,7 +40,7 @@ impl Machine {
         script: PinScript,
         limits: Limits,
     ) -> Result<Machine, NoMemory>
-        requires clocks { limits.clocks ≤ 100000000 }
+        requires clocks { limits.clocks ≤ 4000000000 }
         requires turns { limits.turns ≤ 1000000 }
         requires first { IsProperOrigin boot.first }
         ensures world { IfOk result (λ machine. world_in machine ≡ world_of boot script limits) }
@@ -181,7 +181,7 @@ pub fn run_alone(
     script: PinScript,
     limits: Limits,
 ) -> Result<Ended, NoMemory>
-    requires clocks { limits.clocks ≤ 100000000 }
+    requires clocks { limits.clocks ≤ 4000000000 }
     requires turns { limits.turns ≤ 1000000 }
     requires first { IsProperOrigin boot.first }
     ensures world { IfOk result (λ ended. world_of ended.history.boot script ended.history.limits ≡ world_of boot script limits) }

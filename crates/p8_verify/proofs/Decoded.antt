@@ -6,13 +6,13 @@ use Rattle.std.specs.List.{All}
 use Rattle.std.proofs.lemmas.Bool.{ltb-true}
 use Rattle.std.proofs.lemmas.List.{length-drop, length-take}
 use Rattle.std.proofs.lemmas.List.Elements.{All-head, All-tail, All-take, All-drop}
-use Rattle.p8_instr.specs.declared.op.Op.{Op}
-use Rattle.p8_instr.specs.declared.operands.Operands.{Operands}
-use Rattle.p8_instr.specs.declared.operands.Operands.TheVariants.{Nothing, Offset, OneByte, TwoBytes, ThreeBytes, SevenBits, Word, Triple, Long}
-use Rattle.p8_instr.specs.declared.operands.Operands.TheVariants.{Register, ShortVariable, Variable}
-use Rattle.p8_instr.specs.Table.{operands_of, is_register, is_effect, is_step}
-use Rattle.p8_instr.specs.Reading.{bare, sign_extended, offset_in, offset_size, stepping, effect_in, changing, changes_variable, has_base}
-use Rattle.p8_instr.specs.Reading.{changes_register, variable_in, jump_in, operands_in, coded, op_in, op_at}
+use Rattle.p8_bytecode.specs.declared.op.Op.{Op}
+use Rattle.p8_bytecode.specs.declared.operands.Operands.{Operands}
+use Rattle.p8_bytecode.specs.declared.operands.Operands.TheVariants.{Nothing, Offset, OneByte, TwoBytes, ThreeBytes, SevenBits, Word, Triple, Long}
+use Rattle.p8_bytecode.specs.declared.operands.Operands.TheVariants.{Register, ShortVariable, Variable}
+use Rattle.p8_bytecode.specs.Table.{operands_of, is_register, is_effect, is_step}
+use Rattle.p8_bytecode.specs.Reading.{bare, sign_extended, offset_in, offset_size, stepping, effect_in, changing, changes_variable, has_base}
+use Rattle.p8_bytecode.specs.Reading.{changes_register, variable_in, jump_in, operands_in, coded, op_in, op_at}
 use Rattle.p8_bcog.specs.Code.{code_end, code_of, fetched}
 
 abbrev pub IsByte : ℕ → Type 0

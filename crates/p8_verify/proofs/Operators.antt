@@ -3,8 +3,8 @@ use Rattle.std.proofs.Common.{ℕ, ◌-◌, ◌*◌, ◌/◌, ◌%◌, ◌^◌, 
 use Rattle.std.proofs.lemmas.Nat.{pow_below}
 use Rattle.p8_words.specs.Words.{highest_one, square_root, reversed}
 use Rattle.p8_words.specs.Operators.{truth, is_below, beside, unary_values, binary_values, or_zero, unary_value, binary_value}
-use Rattle.p8_instr.specs.declared.effect.Effect.{Effect}
-use Rattle.p8_instr.specs.Effects.{with_bits, inverted, rows, line_of, effect_of}
+use Rattle.p8_alu.specs.declared.effect.Effect.{Effect}
+use Rattle.p8_alu.specs.Effects.{with_bits, inverted, rows, line_of, effect_of}
 use Rattle.p8_verify.proofs.Words as so
 use Rattle.p8_verify.proofs.Words.{if-word}
 

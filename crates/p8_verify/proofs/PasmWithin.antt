@@ -17,8 +17,8 @@ use Rattle.p8_access.specs.declared.order.Turn.{Turn}
 use Rattle.p8_access.specs.Lives.{Loaded, is_last}
 use Rattle.p8_access.specs.Proper.{IsNumber, value_of}
 use Rattle.p8_access.specs.Windows.{window_of}
-use Rattle.p8_instr.specs.declared.effect.Effect.{Effect}
-use Rattle.p8_instr.specs.Effects.{is_set}
+use Rattle.p8_alu.specs.declared.effect.Effect.{Effect}
+use Rattle.p8_alu.specs.Effects.{is_set}
 use Rattle.p8_instr.specs.declared.instruction.Instr.{Instr}
 use Rattle.p8_instr.specs.Instruction.{bit_range, is_immediate, writes_result}
 use Rattle.p8_cog.specs.declared.kind.Kind.{Kind}

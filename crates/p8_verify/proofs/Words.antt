@@ -12,7 +12,7 @@ use Rattle.std.proofs.lemmas.Int.{ints}
 use Rattle.std.proofs.lemmas.List.{length-reverse, reverse-append}
 use Rattle.std.proofs.lemmas.List.Elements.{All-nil, All-cons, All-append, All-head, All-tail}
 use Rattle.p8_words.specs.Words.{word_of, signed_value, shifted_left, rotated_left, rotated_right, bits_of, number_of, reversed, greatest}
-use Rattle.p8_instr.specs.Effects.{shifted_right_filling, shifted_left_filling}
+use Rattle.p8_alu.specs.Effects.{shifted_right_filling, shifted_left_filling}
 
 pub mod-word : (n : ℕ) → n % 2 ^ 32 < 2 ^ 32
 mod-word n = omega arith

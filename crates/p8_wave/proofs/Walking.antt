@@ -1,5 +1,5 @@
 -- The sections that a walk writes.
-use Rattle.std.proofs.Common.{◌≡◌, ◌∙◌, refl, sym, ap, ℕ, ◌+◌, ◌-◌, ◌<◌, ◌≤◌, List, [], ◌∷◌, ◌++◌, map, Bool, true, false, ◌||◌, if◌then◌else◌, filter, append_assoc, arith, inl, inr}
+use Rattle.std.proofs.Common.{◌≡◌, ◌∙◌, refl, sym, ap, ℕ, ◌+◌, ◌-◌, ◌<◌, ◌≤◌, nat_eq, List, [], ◌∷◌, ◌++◌, map, Bool, true, false, ◌||◌, if◌then◌else◌, filter, append_assoc, arith, inl, inr}
 use Rattle.std.specs.List.{list_any, flat_map, range_with_len}
 use Rattle.std.proofs.lemmas.List.{append-nil}
 use Rattle.std.proofs.lemmas.List.Concat.{flat_map-append}
@@ -18,7 +18,7 @@ use Rattle.p8_wave.specs.declared.variables.Variable.{Variable}
 use Rattle.p8_wave.specs.Variables.{IsVariable}
 use Rattle.p8_wave.specs.Values.{value_at, changes_at, changes}
 use Rattle.p8_wave.specs.Scale.{time_of}
-use Rattle.p8_wave.specs.Wave.{section_text, changes_text}
+use Rattle.p8_wave.specs.Wave.{section_text, end_section, changes_text}
 use Rattle.p8_wave.specs.Following.{AreSignals}
 use Rattle.p8_wave.specs.Walks.{IsAt, IsLater, Shows}
 use Rattle.p8_wave.specs.Sections.{AreVariables, entry_of, still, marked, some_differ, section_of, changed_by, sections_by, IsDone}
@@ -137,11 +137,10 @@ module _ (w : World) (past : List Turn) (vs : List Variable) (are : AreVariables
       }
 
   -- the end
-  module _ (left : List Turn) (course : Course) (old new : Snapshot) (entries₀ entries : List Entry) (before text₀ text : List ℕ) (time : ℕ)
+  module _ (left : List Turn) (course : Course) (old new : Snapshot) (entries₀ entries : List Entry) (before text₀ : List ℕ) (time : ℕ)
       (done : IsDone w past vs (end_of w past) left course old entries₀ before text₀) (is_time : time ≡ time_of w (end_of w past))
       (shows_new : Shows w past (end_of w past) new)
-      (new_entries : entries ≡ map (marked old new) entries₀)
-      (new_text : text ≡ text₀ ++ section_of time old new entries) where
+      (new_entries : entries ≡ map (marked old new) entries₀) where
     marked_end : entries ≡ map (entry_of (λ (v : Variable). changes_at w past (end_of w past) v || changed_by w past (end_of w past - 1) v)) vs
     marked_end =
         new_entries ∙ ap (map (marked old new)) done.told
@@ -153,10 +152,15 @@ module _ (w : World) (past : List Turn) (vs : List Variable) (are : AreVariables
     pub end_entries : entries ≡ map (entry_of (changes w past)) vs
     end_entries = marked_end ∙ entries_agree _ (changes w past) (λ v is. sym (all_any (λ c. changes_at w past c v) (end_of w past) (never_first v))) vs are
 
-    pub end_text : text ≡ before ++ changes_text w past vs
-    end_text =
+    section_end : section_of time old new entries ≡ section_text w past vs (end_of w past)
+    section_end =
+        ap (section_of time old new) marked_end
+        ∙ section_all w past (end_of w past) (end_of w past - 1) old new refl done.shows shows_new (λ (v : Variable). changes_at w past (end_of w past) v || changed_by w past (end_of w past - 1) v) vs are time is_time
+
+    pub end_text : (end : ℕ) (text : List ℕ) → end ≡ end_of w past → text ≡ text₀ ++ (if nat_eq end 0 then [] else section_of time old new entries) → text ≡ before ++ changes_text w past vs
+    end_text end text is_end new_text =
         new_text
-        ∙ ap (λ es. text₀ ++ section_of time old new es) marked_end
-        ∙ ap (λ xs. text₀ ++ xs) (section_all w past (end_of w past) (end_of w past - 1) old new refl done.shows shows_new (λ (v : Variable). changes_at w past (end_of w past) v || changed_by w past (end_of w past - 1) v) vs are time is_time)
-        ∙ ap (λ xs. xs ++ section_text w past vs (end_of w past)) done.written
-        ∙ append_assoc before (sections_by w past vs (end_of w past - 1)) (section_text w past vs (end_of w past))
+        ∙ ap (λ (e : ℕ). text₀ ++ (if nat_eq e 0 then [] else section_of time old new entries)) is_end
+        ∙ ap (λ xs. text₀ ++ (if nat_eq (end_of w past) 0 then [] else xs)) section_end
+        ∙ ap (λ xs. xs ++ end_section w past vs (end_of w past)) done.written
+        ∙ append_assoc before (sections_by w past vs (end_of w past - 1)) (end_section w past vs (end_of w past))

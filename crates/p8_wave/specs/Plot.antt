@@ -1,9 +1,9 @@
 -- A picture of pins as text: a line for each pin with a mark for each column, then ticks, and the clocks at the ticks.
 -- Source: this project's profile. A past is a list of turns, the newest first.
-use Rattle.std.specs.Prelude.{ℕ, ◌+◌, ◌-◌, ◌*◌, ◌%◌, ◌==◌, nat_lt, min, max, if◌then◌else◌, Bool, true, false, not, List, [], ◌∷◌, ◌++◌, codes, filter, flat_map, map, length, replicate}
+use Rattle.std.specs.Prelude.{ℕ, ◌+◌, ◌-◌, ◌*◌, ◌%◌, ◌==◌, nat_le, nat_lt, min, max, if◌then◌else◌, Bool, true, false, not, List, [], ◌∷◌, ◌++◌, codes, filter, flat_map, map, length, replicate}
 use Rattle.std.specs.Fmt.{decimal}
 use Rattle.std.specs.Int.{div_ceil}
-use Rattle.std.specs.List.{list_all, range_with_len}
+use Rattle.std.specs.List.{list_all, list_any, range_with_len}
 use Rattle.p8_access.specs.declared.order.Turn.{Turn}
 use Rattle.p8_access.specs.Worlds.{World}
 use Rattle.p8_pins.specs.Levels.{is_high, high_at, end_of}
@@ -56,22 +56,29 @@ abbrev pub pin_line : (high : ℕ → Bool) (ascii : Bool) (columns : List Colum
 pin_line high ascii columns pin =
     label_of pin ++ flat_map (λ column. text_of_mark ascii (mark_of high column)) columns ++ codes "\n"
 
--- every tenth column has a tick
-abbrev pub ticked : List Column → List Column
-ticked columns = filter (λ column. column.number % 10 == 0) columns
+-- the first column, and from there on one of so many
+abbrev pub every : (step : ℕ) → List Column → List Column
+every step columns = filter (λ column. column.number % step == 0) columns
 
--- texts that begin ten characters apart, with spaces between them, and so many before the first
-abbrev pub apart : (before : ℕ) → List (List ℕ) → List ℕ
-apart before [] = []
-apart before (text ∷ texts) = replicate before 32 ++ text ++ apart (10 - length text) texts
+-- texts that begin so many characters apart, with spaces between them, and so many before the first
+abbrev pub apart : (step before : ℕ) → List (List ℕ) → List ℕ
+apart step before [] = []
+apart step before (text ∷ texts) = replicate before 32 ++ text ++ apart step (step - length text) texts
 
--- a line with the ticks, each at its column
+-- a line with a tick at every tenth column
 abbrev pub tick_line : List Column → List ℕ
-tick_line columns = apart 4 (map (λ column. codes "|") (ticked columns)) ++ codes "\n"
+tick_line columns = apart 10 4 (map (λ column. codes "|") (every 10 columns)) ++ codes "\n"
 
--- a line with the clocks at which the columns with ticks begin
+-- how many columns there are for a clock: as many as for a tick, and twice as many where a column begins at a clock of ten digits
+abbrev pub step_of : List Column → ℕ
+step_of columns = if list_any (λ column. nat_le 1000000000 column.first) columns then 20 else 10
+
+-- a line with the clocks at which columns with ticks begin
+abbrev pub clock_line_by : (step : ℕ) → List Column → List ℕ
+clock_line_by step columns = apart step 4 (map (λ column. decimal column.first) (every step columns)) ++ codes "\n"
+
 abbrev pub clock_line : List Column → List ℕ
-clock_line columns = apart 4 (map (λ column. decimal column.first) (ticked columns)) ++ codes "\n"
+clock_line columns = clock_line_by (step_of columns) columns
 
 -- both lines; neither where there are no columns
 abbrev pub scale_of : List Column → List ℕ

@@ -58,9 +58,13 @@ head_text w vs =
 abbrev pub first_text : World → List Turn → List Variable → List ℕ
 first_text w past vs = codes "#0\n$dumpvars\n" ++ values_text w past 0 vs ++ codes "$end\n"
 
+-- the section of the end; one at clock 0 has none, since the values at clock 0 stand already
+abbrev pub end_section : World → List Turn → List Variable → (end : ℕ) → List ℕ
+end_section w past vs end = if nat_eq end 0 then [] else section_text w past vs end
+
 -- a section for each clock at which one of some variables changes, and one for the end
 abbrev pub changes_text : World → List Turn → List Variable → List ℕ
-changes_text w past vs = flat_map (section_text w past vs) (change_clocks w past vs) ++ section_text w past vs (end_of w past)
+changes_text w past vs = flat_map (section_text w past vs) (change_clocks w past vs) ++ end_section w past vs (end_of w past)
 
 -- the whole text
 abbrev pub wave_of : World → List Turn → Selection → List ℕ

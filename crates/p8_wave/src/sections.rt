@@ -1,5 +1,5 @@
 // The sections of a wave: a time, and what changes at it.
-ghost use Rattle.std.specs.Prelude.{◌≡◌, ◌++◌, ◌*◌, codes, map, if◌then◌else◌, [], IfOk, OnOk};
+ghost use Rattle.std.specs.Prelude.{◌≡◌, ◌++◌, ◌*◌, nat_eq, codes, map, if◌then◌else◌, [], IfOk, OnOk};
 ghost use Rattle.std.specs.Fmt.{decimal};
 ghost use Rattle.p8_wave.specs.Variables.{variables};
 ghost use Rattle.p8_wave.specs.Sections.{still, marked, some_differ, section_of};
@@ -84,13 +84,16 @@ impl Sections {
         }
     }
 
-    /// The end, with what changes at it.
+    /// The end, with what changes at it; nothing where it is at clock 0, whose values stand already.
     pub fn end(&mut self, clock: u64, old: &Snapshot, new: &Snapshot) -> Result<(), NoMemory>
-        ensures text { OnOk result (self.new.text.items ≡ self.old.text.items ++ section_of (clock * self.old.ticks) old.now new.now self.new.entries.items) }
+        ensures text { OnOk result (self.new.text.items ≡ self.old.text.items ++ (if nat_eq clock 0 then [] else section_of (clock * self.old.ticks) old.now new.now self.new.entries.items)) }
         ensures entries { self.new.entries.items ≡ map (marked old.now new.now) self.old.entries.items }
         ensures ticks { self.new.ticks ≡ self.old.ticks }
     {
         self.mark(old, new);
+        if clock == 0 {
+            return Ok(());
+        }
         self.push(clock, old, new)
     }
 }

@@ -50,7 +50,7 @@ returns-clause-text c = λ w past vs are set at unchanged.
     let time = c.args.end * c.loop-next.sections.ticks in
     let is_time = ap (λ (n : ℕ). c.args.end * n) (c.loop-next.invariant.ticks ∙ set.lasts) ∙ ap (λ (n : ℕ). n * ticks_in (period_of (frequency w))) set.ends in
     on_ok_weaker c.end.result
-    (λ e. end_text w past vs are left course c.loop-next.old c.snapshot.result c.loop-next.sections.entries.items c.end.new.self.entries.items c.args.sections.now.text.items c.loop-next.sections.text.items c.end.new.self.text.items time done is_time shows c.end.ensures.entries e)
+    (λ e. end_text w past vs are left course c.loop-next.old c.snapshot.result c.loop-next.sections.entries.items c.end.new.self.entries.items c.args.sections.now.text.items c.loop-next.sections.text.items time done is_time shows c.end.ensures.entries c.args.end c.end.new.self.text.items set.ends e)
     c.end.ensures.text
 
 pub returns-clause-entries : goal.returns-clause-entries
@@ -65,5 +65,5 @@ returns-clause-entries c = λ w past vs are set at unchanged.
     let time = c.args.end * c.loop-next.sections.ticks in
     let is_time = ap (λ (n : ℕ). c.args.end * n) (c.loop-next.invariant.ticks ∙ set.lasts) ∙ ap (λ (n : ℕ). n * ticks_in (period_of (frequency w))) set.ends in
     on_ok_weaker c.end.result
-    (λ e. end_entries w past vs are left course c.loop-next.old c.snapshot.result c.loop-next.sections.entries.items c.end.new.self.entries.items c.args.sections.now.text.items c.loop-next.sections.text.items c.end.new.self.text.items time done is_time shows c.end.ensures.entries e)
+    (λ _. end_entries w past vs are left course c.loop-next.old c.snapshot.result c.loop-next.sections.entries.items c.end.new.self.entries.items c.args.sections.now.text.items c.loop-next.sections.text.items time done is_time shows c.end.ensures.entries)
     c.end.ensures.text
