@@ -33,10 +33,10 @@ world_in start = machine.world_of start.boot start.script start.limits
 
 -- a run can be made, and what is told of it
 pub record IsRunnable (start : Start) (finish : Finish) : Type 0 where
-  pub clocks : start.limits.clocks ≤ 100000000
+  pub clocks : start.limits.clocks ≤ 4000000000
   pub turns : start.limits.turns ≤ 1000000
   pub first : IsProperOrigin start.boot.first
-  pub can_be_told : CanBeTold finish start.limits.turns
+  pub can_be_told : CanBeTold finish start.limits.clocks start.limits.turns
 
 -- what is made of a run: what is told of its ended history, whole
 abbrev pub IsMadeOf : Start → Finish → List ℕ → Type 0
@@ -45,7 +45,7 @@ IsMadeOf start finish text =
 
 -- a run can be made, and its view told
 pub record IsViewable (start : Start) (view : Viewing) : Type 0 where
-  pub clocks : start.limits.clocks ≤ 100000000
+  pub clocks : start.limits.clocks ≤ 4000000000
   pub turns : start.limits.turns ≤ 1000000
   pub first : IsProperOrigin start.boot.first
   pub dump : ForSome view.dump (λ range. range.0 + range.1 ≤ 32768)

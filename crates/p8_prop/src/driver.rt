@@ -69,7 +69,7 @@ fn run_by_crew<R: Threads + Wait + Clone + Send + Drop + 'static, F: Starter>(
     starter: &mut F,
     start: Start,
 ) -> Result<Ended, NoMemory>
-    requires clocks { start.limits.clocks ≤ 100000000 }
+    requires clocks { start.limits.clocks ≤ 4000000000 }
     requires turns { start.limits.turns ≤ 1000000 }
     requires first { IsProperOrigin start.boot.first }
     ensures world { IfOk result (λ ended. world_of ended.history.boot start.script ended.history.limits ≡ world_of start.boot start.script start.limits) }

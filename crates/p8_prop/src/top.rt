@@ -40,8 +40,9 @@ use std::thread::Threads;
 ///
 /// The words are looked at first, then the file with its project, then the pin script, then the history file; then the run is made, and then its
 /// text is written. Each of these files is read once, in this order, and none after one that stops the command. The shelf's files stay as they were,
-/// and no count of faults falls. Every status but `Ok` is told by one line on `faults`, or by the explanation of a refusal or of a missing file, with
-/// the line of the file as it was read, and before the text is written nothing goes to `out`:
+/// and no count of faults falls. Every status but `Ok` is told by one line on `faults`, and before the text is written nothing goes to `out`. With
+/// `explain` the explanation of a refusal, or of a missing file that a source mentions, is the text: it goes to `out`, with the line of the file as it
+/// was read, and nothing to `faults`:
 ///
 /// - `Usage` exactly where the words are no command;
 /// - `Refused` exactly where the project of a source is refused, with the first refusal: of a file while the project is gathered
@@ -55,7 +56,7 @@ use std::thread::Threads;
 /// - `BadScript` exactly where the pin script has a bad line, or more than 1,048,576 bytes;
 /// - `BadHistory` exactly where the history file isn't that of the run, with the first turn of which that can be said, and why
 ///   ([`verify`](p8_verify::verify));
-/// - `SinkFault` only where `out` has counted a fault; a prefix of the text is out then;
+/// - `SinkFault` only where `out` has counted a fault; a prefix of the text, or of the explanation, is out then;
 /// - `NoMemory` where there was no memory, also for words that are no command.
 pub fn prop<
     R: Threads + Wait + Clone + Send + Drop + 'static,

@@ -204,7 +204,7 @@ fn run_work<S: Shelf>(
     shelf: &mut S,
 ) -> Result<Work, Stop>
     requires within { IsWithin run }
-    requires can { CanBeTold finish run.turns }
+    requires can { CanBeTold finish run.clocks run.turns }
     ensures work { IfOk result (IsRunWork (S.files shelf.old) format (running run.entry) finish) }
     ensures stopped { IfErr result
         (Stops (S.files shelf.old) (S.faults shelf.old) (S.faults shelf.new) (run_asks format run.entry.file.now (name_of run.entry.script))) }
@@ -242,7 +242,7 @@ fn chosen_work<S: Shelf>(
     shelf: &mut S,
 ) -> Result<Work, Stop>
     requires within { IsWithin run }
-    requires can { CanBeTold finish run.turns }
+    requires can { CanBeTold finish run.clocks run.turns }
     ensures work { IfOk result (IsRunWork (S.files shelf.old) (format_for raw run.entry.file.now) (running run.entry) finish) }
     ensures stopped { IfErr result
         (Stops (S.files shelf.old) (S.faults shelf.old) (S.faults shelf.new) (run_asks (format_for raw run.entry.file.now) run.entry.file.now (name_of run.entry.script))) }
@@ -346,7 +346,7 @@ fn made_boot(alloc: Global, seed: u32) -> Result<Boot, NoMemory>
 /// What a run of the made program of a seed begins from.
 fn made_start(alloc: Global, seed: u32) -> Result<Start, NoMemory>
     ensures world { IfOk result (λ start. world_in start ≡ made_world seed) }
-    ensures clocks { IfOk result (λ start. start.limits.clocks ≤ 100000000) }
+    ensures clocks { IfOk result (λ start. start.limits.clocks ≤ 4000000000) }
     ensures turns { IfOk result (λ start. start.limits.turns ≤ 1000000) }
     ensures proper { IfOk result (λ start. IsProperOrigin start.boot.first) }
 {
