@@ -22,7 +22,7 @@ use std::thread::Threads;
 const HUB_BYTES: usize = 32_768;
 
 /// The greatest limits of a run.
-const MOST_CLOCKS: u64 = 100_000_000;
+const MOST_CLOCKS: u64 = 4_000_000_000;
 
 const MOST_TURNS: u64 = 1_000_000;
 
@@ -143,7 +143,7 @@ impl<'a> Case<'a> {
     ///
     /// A file that can't be read, that the hub can't hold or that is no image or script, and limits that no run may have.
     pub fn start<R: Files + Alloc<A = Global>>(&self, rt: &R) -> anyhow::Result<Start>
-        ensures clocks { IfOk result (λ start. start.limits.clocks ≤ 100000000) }
+        ensures clocks { IfOk result (λ start. start.limits.clocks ≤ 4000000000) }
         ensures turns { IfOk result (λ start. start.limits.turns ≤ 1000000) }
         ensures first { IfOk result (λ start. IsProperOrigin start.boot.first) }
     {

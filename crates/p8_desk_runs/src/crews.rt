@@ -28,7 +28,7 @@ pub fn run_refused<R: Threads + Wait + Clone + Send + Drop + 'static>(
     start: Start,
     call: u64,
 ) -> Result<Ended, NoMemory>
-    requires clocks { start.limits.clocks ≤ 100000000 }
+    requires clocks { start.limits.clocks ≤ 4000000000 }
     requires turns { start.limits.turns ≤ 1000000 }
     requires first { IsProperOrigin start.boot.first }
 {

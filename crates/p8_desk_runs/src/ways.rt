@@ -56,7 +56,7 @@ pub enum Row {
 
 /// Whether a row holds at the desk of a start.
 pub fn holds(alloc: Global, start: Start, row: Row) -> Result<bool, NoMemory>
-    requires clocks { start.limits.clocks ≤ 100000000 }
+    requires clocks { start.limits.clocks ≤ 4000000000 }
     requires turns { start.limits.turns ≤ 1000000 }
     requires first { IsProperOrigin start.boot.first }
 {
@@ -74,7 +74,7 @@ pub fn run<R: Threads + Wait + Sync>(
     start: Start,
     way: Way,
 ) -> Result<Ended, NoMemory>
-    requires clocks { start.limits.clocks ≤ 100000000 }
+    requires clocks { start.limits.clocks ≤ 4000000000 }
     requires turns { start.limits.turns ≤ 1000000 }
     requires first { IsProperOrigin start.boot.first }
 {

@@ -1,5 +1,6 @@
 // Cases whose results an independent model of the instruction table gave.
-use p8_instr::{Instr, execute};
+use p8_alu::execute;
+use p8_instr::Instr;
 
 /// An opcode, D, S, C, Z and the next address, and the result, C and Z after them.
 type Case = (u8, u32, u32, bool, bool, u16, u32, bool, bool);

@@ -1,5 +1,5 @@
 // Bytecodes of worked programs, read and written back.
-use p8_instr::{Op, Operands, operands_of, put_op, take_op};
+use p8_bytecode::{Op, Operands, operands_of, put_op, take_op};
 use p8_words::NoMemory;
 use std::alloc::Global;
 

@@ -63,3 +63,22 @@ fn marks_what_changes(rt: HostRuntime) -> Result<(), Fail> {
     assert_eq!(rt; text.len(), 4 + 3 * 110 + 1 + 106 + 108);
     Ok(())
 }
+
+/// The pin is high from clock 3,000,000,000 on, which is in the 83rd of 110 columns.
+#[test]
+fn long_clocks_stand_apart(rt: HostRuntime) -> Result<(), Fail> {
+    let script = PinScript::read(rt.alloc(), b"3000000000 00000001\n")?;
+    let view = View {
+        pins: 1,
+        from: 0,
+        to: u64::MAX,
+        ascii: true,
+    };
+    let text = plot(rt.alloc(), &script, &[], 4_000_000_000, 10, &view)?;
+    let worked =
+        b"P0  __________________________________________________________________________________X---------------------------\n\
+        \x20   |         |         |         |         |         |         |         |         |         |         |\n\
+        \x20   0                   727272740           1454545480          2181818220          2909090960          3636363700\n";
+    assert_eq!(rt; text.as_slice(), worked.as_slice());
+    Ok(())
+}

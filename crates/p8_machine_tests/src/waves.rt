@@ -32,12 +32,18 @@ const WOKEN: &[u8] = b"$version Propeller P8X32A $end\n$timescale 100 ps $end\n\
     #2082250\nb00 F\n\
     #2500000\n";
 
-/// The wave of a run of a raw program over 20,000 clocks, without a pin script.
-fn raw_wave(alloc: Global, program: &[u8], selection: Selection) -> Result<Vec<u8>, NoMemory>
-    requires { length program.now ≤ 32768 }
+/// The wave of a run of a raw program over so many clocks, without a pin script.
+fn raw_wave(
+    alloc: Global,
+    program: &[u8],
+    clocks: u64,
+    selection: Selection,
+) -> Result<Vec<u8>, NoMemory>
+    requires program { length program.now ≤ 32768 }
+    requires clocks { clocks ≤ 4000000000 }
 {
     let limits = Limits {
-        clocks: 20_000,
+        clocks,
         turns: 100_000,
     };
     let boot = Boot::raw(alloc, program)?;
@@ -52,7 +58,7 @@ fn a_cog_wakes_another(rt: HostRuntime) -> Result<(), Fail> {
         all: false,
         pins_only: false,
     };
-    let text = raw_wave(rt.alloc(), &WAKING, selection)?;
+    let text = raw_wave(rt.alloc(), &WAKING, 20_000, selection)?;
     assert_eq!(rt; text.as_slice(), WOKEN);
     Ok(())
 }
@@ -72,8 +78,43 @@ fn pins_alone(rt: HostRuntime) -> Result<(), Fail> {
         all: false,
         pins_only: true,
     };
-    let text = raw_wave(rt.alloc(), &WAKING, selection)?;
+    let text = raw_wave(rt.alloc(), &WAKING, 20_000, selection)?;
     assert_eq!(rt; text.as_slice(), WOKEN_PINS);
+    Ok(())
+}
+
+/// The same program, but that cog 0 waits for clock 3,000,000,000: its wait is in register 8.
+const WAITING: [u8; 48] = [
+    0x02, 0x0E, 0x7C, 0x0C, 0x00, 0x10, 0xFC, 0xF8, 0x01, 0xE8, 0xFF, 0xA0, 0x01, 0xEC, 0xFF, 0xA0,
+    0x03, 0x12, 0x7C, 0x0C, 0x05, 0x0A, 0x3C, 0xF0, 0x03, 0x0C, 0x7C, 0x0C, 0x58, 0x00, 0x00, 0x00,
+    0x00, 0x5E, 0xD0, 0xB2, 0x00, 0x00, 0x00, 0x00, 0x01, 0x00, 0x00, 0x00, 0x01, 0x00, 0x00, 0x00,
+];
+
+/// Both clocks that are waited for are multiples of 16, so all that follows comes 2,999,983,360 clocks later, up to the last clock that
+/// a run may have.
+const WAITED: &[u8] = b"$version Propeller P8X32A $end\n$timescale 100 ps $end\n\
+    $scope module pins $end\n$var wire 1 ! P0 $end\n$upscope $end\n\
+    $enddefinitions $end\n\
+    #0\n$dumpvars\n0!\n$end\n\
+    #375000001125\n1!\n\
+    #375000002000\n0!\n\
+    #500000000000\n";
+
+/// A run of no clock has the values at clock 0, and that time once.
+const NO_CLOCK: &[u8] = b"$version Propeller P8X32A $end\n$timescale 100 ps $end\n\
+    $enddefinitions $end\n\
+    #0\n$dumpvars\n$end\n";
+
+#[test]
+fn the_longest_and_the_shortest_run(rt: HostRuntime) -> Result<(), Fail> {
+    let selection = Selection {
+        all: false,
+        pins_only: true,
+    };
+    let text = raw_wave(rt.alloc(), &WAITING, 4_000_000_000, selection)?;
+    assert_eq!(rt; text.as_slice(), WAITED);
+    let text = raw_wave(rt.alloc(), &WAITING, 0, selection)?;
+    assert_eq!(rt; text.as_slice(), NO_CLOCK);
     Ok(())
 }
 
@@ -117,7 +158,7 @@ fn all_pins_and_locks(rt: HostRuntime) -> Result<(), Fail> {
         all: true,
         pins_only: true,
     };
-    let text = raw_wave(rt.alloc(), &LOCKING, selection)?;
+    let text = raw_wave(rt.alloc(), &LOCKING, 20_000, selection)?;
     assert_eq!(rt; text.as_slice(), LOCKED);
     Ok(())
 }

@@ -112,6 +112,12 @@ const VIEW: &[u8] =
     cog 4 is idle\ncog 5 is idle\ncog 6 is idle\ncog 7 is idle\n\
     3 turns are made, the last at clock 8272\nno cog makes another before clock 20000\n";
 
+/// The view of the same from the last clock on that a run which is shown may have.
+const LATE_VIEW: &[u8] =
+    b"cog 0 is stopped at clock 8272\ncog 1 is idle\ncog 2 is idle\ncog 3 is idle\n\
+    cog 4 is idle\ncog 5 is idle\ncog 6 is idle\ncog 7 is idle\n\
+    3 turns are made, the last at clock 8272\nno cog makes another before clock 4000000000\n";
+
 /// The end of the view of a method that writes 5 to the variable `x` at clock 8304, with the variable.
 const WRITTEN: &[u8] =
     b"cog 0 is stopped at clock 8352\ncog 1 is idle\ncog 2 is idle\ncog 3 is idle\n\
@@ -183,7 +189,7 @@ fn is_refused(alloc: Global, refusal: &Refusal) -> Result<bool, NoMemory> {
 }
 
 /// Calls and what they write. An option stands before FILE, and another one between FILE and CLOCKS.
-static ANSWERS: [(&str, &[u8]); 19] = [
+static ANSWERS: [(&str, &[u8]); 20] = [
     ("run --alone a.binary --dump=0000:2 20000", TEXT),
     ("build main.spin", IMAGE),
     ("list main.spin", LISTING),
@@ -211,6 +217,7 @@ static ANSWERS: [(&str, &[u8]); 19] = [
     ("hint main.spin", b"nothing to hint at\n"),
     ("map main.spin", MAP),
     ("view main.spin 20000 --alone", VIEW),
+    ("view main.spin 4000000000 --from 4000000000", LATE_VIEW),
     ("view five.spin 20000 --quiet --dump x", WRITTEN),
 ];
 
@@ -411,9 +418,9 @@ fn an_empty_word_is_a_file(rt: HostRuntime) {
 }
 
 /// Too many turns, pin 32, an option given twice, a call for help as an option, help on another word, a run by a crew, which is no
-/// command for one thread, too great a seed and none, no words, too many clocks, short code of an image, pins and clocks that there
+/// command for one thread, too great a seed and none, no words, too many clocks of a run that is traced, read and shown, short code of an image, pins and clocks that there
 /// aren't, numbers of digits alone that are none of a refusal, words that these commands don't have, and a cog and a clock that there aren't.
-static NO_COMMANDS: [&str; 26] = [
+static NO_COMMANDS: [&str; 28] = [
     "save a.binary 17 --turns 40001",
     "serial a.binary 1951 32 100",
     "raw a.binary 1 --turns 2 --turns=2",
@@ -426,13 +433,15 @@ static NO_COMMANDS: [&str; 26] = [
     "make --alone",
     "",
     "raw a.binary 100000001",
+    "serial a.binary 100000001 0 2",
+    "wave a.binary 4000000001 --alone",
     "run none.binary 1 --short --alone",
     "plot a.binary 8 0,3-1 --alone",
     "plot a.binary 8 32 --alone",
     "plot a.binary 8 0 5:9 --alone",
     "explain",
     "explain 0",
-    "explain 31",
+    "explain 32",
     "explain 026",
     "explain main.spin --short",
     "map main.spin 20000",

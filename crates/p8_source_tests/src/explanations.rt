@@ -22,7 +22,7 @@ fn is_explained(alloc: Global, case: &Case) -> Result<bool, NoMemory> {
     Ok(text.as_slice() == expected)
 }
 
-static EXPLAINED: [Case; 22] = [
+static EXPLAINED: [Case; 23] = [
     // A token that can't stand where it does, told apart by what its line shows: after a tab, in UTF-16, with CR LF, in a long line.
     (
         b"PUB main\n\ta := next\n",
@@ -76,6 +76,19 @@ static EXPLAINED: [Case; 22] = [
             `next` is a reserved word, and can't be a name.\n\
             No line begins or goes on so, or the file ends here and more must follow.\n\
             Look at what stands before it: a missing operator, bracket, comma or colon is told at the token after it.\n",
+    ),
+    // A file that begins with the mark of UTF-8, whose lines are shown from behind it.
+    (
+        b"\xef\xbb\xbfPUB main | a\n  a := string(\"x\", 256)\n",
+        31,
+        2,
+        20,
+        None,
+        b"m.spin:2:20: 31 NotCharacter\n\
+            \x20 a := string(\"x\", 256)\n\
+            \x20                  ^\n\
+            An item of a text in STRING isn't from 1 to 255.\n\
+            Each number is one character; the 0 at the text's end comes by itself.\n",
     ),
     // A token that can't stand where it does, by what stands before it.
     (
@@ -340,7 +353,7 @@ fn refusals_are_explained(rt: HostRuntime) {
 }
 
 /// Refusals by their numbers, and what is told of them.
-static ENTRIES: [(u8, &[u8]); 3] = [
+static ENTRIES: [(u8, &[u8]); 4] = [
     (
         26,
         b"26 FrameTooLarge\n\
@@ -354,7 +367,14 @@ static ENTRIES: [(u8, &[u8]); 3] = [
             The file has more than 1,048,576 bytes.\n\
             Split it into objects.\n",
     ),
-    (31, b"31 \nNo refusal has this number.\n"),
+    (
+        31,
+        b"31 NotCharacter\n\
+            An item of a text in STRING isn't from 1 to 255.\n\
+            Each number is one character; the 0 at the text's end comes by itself.\n\
+            Example: a := string(\"x\", 256)\n",
+    ),
+    (32, b"32 \nNo refusal has this number.\n"),
 ];
 
 /// Whether each refusal is told so.

@@ -1,6 +1,7 @@
 // Worked expressions, read with ample memory.
 use p8_expr::{GREATEST_HEIGHT, parse_expr, parse_expr_in};
 use p8_grammar::Setting;
+use p8_kinds::{Consts, put_text};
 use p8_lexer::lex;
 use p8_tree::{Expr, ExprKind, Fault};
 use p8_words::Fail;
@@ -66,10 +67,63 @@ fn reads_a_product_in_a_sum(rt: HostRuntime) {
 
 #[test]
 fn refuses_floating_point_behind_an_operator(rt: HostRuntime) {
+    let behind_a_label = is_refused_in_dat(rt.alloc(), b":next + :pi + pi", "1:15: 9 Float");
     assert!(rt;
-        matches!(
-            is_refused_in_dat(rt.alloc(), b"x + pi", "1:5: 9 Float"),
-            Ok(true)
-        )
+        matches!(behind_a_label, Ok(true))
+            && matches!(
+                is_refused_in_dat(rt.alloc(), b"x + pi", "1:5: 9 Float"),
+                Ok(true)
+            )
     );
+}
+
+// What a text begins with: of a list in STRING its text, of a LOOK function the number of its items as a byte, else nothing.
+fn told(alloc: Global, source: &[u8]) -> Result<Vec<u8>, AllocError> {
+    let mut text = Vec::new(alloc);
+    let Ok(tokens) = lex(alloc, source) else {
+        return Ok(text);
+    };
+    if tokens.is_empty() {
+        return Ok(text);
+    }
+    let Ok((expr, _)) = parse_expr(alloc, source, &tokens, 0) else {
+        return Ok(text);
+    };
+    let consts = Consts::new(alloc);
+    let put = match &expr.kind {
+        ExprKind::Strings(items) => put_text(items, &consts, &mut text),
+        ExprKind::Look(_, _, items) => text.extend_from_slice(&[(items.len() % 256) as u8]),
+        _ => Ok(()),
+    };
+    drop(consts);
+    drop(expr);
+    put?;
+    Ok(text)
+}
+
+// A string alone in STRING is no list; one of one character may go on as an expression. Among items of LOOK a string is its characters.
+static LISTS: [(&[u8], &[u8]); 8] = [
+    (b"string(\"Hello\", 13, 10)", b"Hello\r\n"),
+    (b"string(65)", b"A"),
+    (b"string(\"a\" + 1, \"cd\", \"e\")", b"bcde"),
+    (b"string(\"a\", 98)", b"ab"),
+    (b"string(string(\"ab\"))", b"ab"),
+    (b"string(\"ab\")", b""),
+    (b"lookup(i: \"abc\", 1..2, \"d\")", b"\x05"),
+    (b"lookdown(i: \"abc\" + 1)", b""),
+];
+
+// Whether that is what the tokens of an expression tell.
+fn tells(alloc: Global, source: &[u8], expected: &[u8]) -> bool {
+    match told(alloc, source) {
+        Ok(text) => text.as_slice() == expected,
+        Err(_) => false,
+    }
+}
+
+#[test]
+fn reads_lists(rt: HostRuntime) {
+    for (source, expected) in &LISTS {
+        assert!(rt; tells(rt.alloc(), source, expected));
+    }
 }

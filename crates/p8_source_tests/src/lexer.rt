@@ -5,10 +5,13 @@ use p8_words::Fail;
 use std::alloc::Global;
 
 /// Files, the number of the refusal of each, and its line and column.
-static REFUSED: [(&[u8], u8, u32, u32); 3] = [
+static REFUSED: [(&[u8], u8, u32, u32); 5] = [
     (b"  4_294_967_296", 2, 1, 3),
     (b"{\r\r\n\n\t}}", 1, 4, 10),
     (b"\xff\xfea\x00b", 1, 1, 2),
+    // The mark of UTF-8 has no place, and is none anywhere else.
+    (b"\xef\xbb\xbfa \xef", 1, 1, 3),
+    (b"\xef\xbb\xbf\xef\xbb\xbf", 1, 1, 1),
 ];
 
 /// Whether a file is refused so.
@@ -33,7 +36,7 @@ fn refuses_at_the_first_place(rt: HostRuntime) {
 }
 
 /// Files and the words of their tokens.
-static WORDS: [(&[u8], &[Word]); 3] = [
+static WORDS: [(&[u8], &[Word]); 4] = [
     (
         b"x<-$1.5",
         &[
@@ -51,6 +54,10 @@ static WORDS: [(&[u8], &[Word]); 3] = [
     (
         b"1.5\"a\"\n",
         &[Word::FloatNumber, Word::Str, Word::LineEnd],
+    ),
+    (
+        b"\xef\xbb\xbfPUB \"\xef\xbb\xbf\" '\xef\xbb\xbf",
+        &[Word::Pub, Word::Str],
     ),
 ];
 
@@ -77,7 +84,9 @@ fn reads_words(rt: HostRuntime) {
 
 #[test]
 fn names_refusals_and_words(rt: HostRuntime) {
-    let has_refusals = refusal_name(1) == "BadByte" && refusal_name(31) == "";
+    let has_refusals = refusal_name(1) == "BadByte"
+        && refusal_name(31) == "NotCharacter"
+        && refusal_name(32) == "";
     let has_symbols = Word::symbol(0) == Some(Word::PlusPlus)
         && Word::Assign.symbol_number() == Some(34)
         && Word::Con.symbol_number() == None;

@@ -1,4 +1,4 @@
-// The map of a small project, line for line.
+// The maps of small projects, line for line.
 use crate::shelves::shelf_of;
 use p8_io::MemShelf;
 use p8_map::project_map;
@@ -59,6 +59,29 @@ const MAP: &str = "0000 header clkfreq 00B71B00
 /// The files of the project.
 static FILES: [(&str, &[u8]); 2] = [("top.spin", TOP), ("led.spin", LED)];
 
+/// A text with a line's end, which is told by numbers. The code is 87 80 0D 65 32: the text stands at 0D from its object's begin.
+static GREETING: [(&str, &[u8]); 1] = [(
+    "top.spin",
+    b"PUB main | p\n  p := string(\"Hello\", 13, 10)\n",
+)];
+
+const MAP_OF_GREETING: &str = "0000 header clkfreq 00B71B00
+0004 header clkmode 00
+0005 header checksum AE
+0006 header pbase 0010
+0008 header vbase 0028
+000A header dbase 0030
+000C header pcurr 0018
+000E header dcurr 0038
+0010 object top.spin
+0018 method 1 main
++0000 result RESULT 1
++0004 local p 1
+001D string \"Hello\", 13, 10
+0030 stack
+0038 free 32712
+";
+
 /// The map of the project of `top.spin`.
 fn map_on(alloc: Global, shelf: &mut MemShelf) -> Option<Vec<u8>> {
     let Ok(gathered) = gather(alloc, shelf, "top.spin") else {
@@ -72,18 +95,19 @@ fn map_on(alloc: Global, shelf: &mut MemShelf) -> Option<Vec<u8>> {
     }
 }
 
-/// Whether the map is told so.
-fn is_told(alloc: Global) -> Result<bool, NoMemory> {
-    let mut shelf = shelf_of(alloc, &FILES, 0)?;
+/// Whether the map of some files is told so.
+fn is_told(alloc: Global, files: &[(&str, &[u8])], expected: &str) -> Result<bool, NoMemory> {
+    let mut shelf = shelf_of(alloc, files, 0)?;
     let map = map_on(alloc, &mut shelf);
     drop(shelf);
     match map {
-        Some(text) => Ok(text.as_slice() == MAP.as_bytes()),
+        Some(text) => Ok(text.as_slice() == expected.as_bytes()),
         None => Ok(false),
     }
 }
 
 #[test]
-fn tells_where_two_objects_stand(rt: HostRuntime) {
-    assert!(rt; matches!(is_told(rt.alloc()), Ok(true)));
+fn tells_where_all_stands(rt: HostRuntime) {
+    assert!(rt; matches!(is_told(rt.alloc(), &FILES, MAP), Ok(true)));
+    assert!(rt; matches!(is_told(rt.alloc(), &GREETING, MAP_OF_GREETING), Ok(true)));
 }

@@ -102,7 +102,7 @@ fn is_answered(alloc: Global, case: &Case) -> Result<bool, AllocError> {
 }
 
 // Each by itself: the first fault, by place and then by number.
-static REFUSALS: [Case; 13] = [
+static REFUSALS: [Case; 15] = [
     ("CON\n  a = b\n  b = a", 0, false, 0, "A", "12 2:7"),
     // What uses itself counts as 0 where it is used.
     ("CON\n  a = 1 / q\n  q = q", 0, false, 0, "A", "13 2:9"),
@@ -131,6 +131,22 @@ static REFUSALS: [Case; 13] = [
     ("PUB main\n  f(1)", 0, true, 0, "A", "15 2:3"),
     ("PUB main(a)\nPUB g\n  main", 0, true, 0, "A", "17 3:3"),
     ("PUB main\nDAT\n  jmp #:x\n:y", 0, true, 0, "A", "15 3:8"),
+    (
+        "CON\n  k = 128\nPUB main\n  return string(\"a\", k + k)",
+        0,
+        true,
+        0,
+        "A",
+        "31 4:24",
+    ),
+    (
+        "PUB main(p)\n  return string(\"a\", 0, p)",
+        0,
+        true,
+        0,
+        "A",
+        "31 2:22",
+    ),
 ];
 
 #[test]

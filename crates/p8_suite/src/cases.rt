@@ -26,8 +26,8 @@ pub enum Case<'a> {
     Run(Run<'a>),
     /// `stops IMAGE PINS LINE`: an image that can't be run, and the line that tells why, without the program's name.
     Stopped(Stopped<'a>),
-    /// `build PROJECT IMAGE`: a project of sources, whose files stand in one file, and its image; `list PROJECT LISTING`: and its
-    /// listing.
+    /// `build PROJECT IMAGE`: a project of sources, whose files stand in one file, and its image; `short PROJECT IMAGE`: with shorter
+    /// code; `list PROJECT LISTING`: its listing.
     Written(Written<'a>),
     /// `refused PROJECT LINE`: a project that isn't built, and the line that tells why, without the program's name.
     Unbuilt(Unbuilt<'a>),
@@ -54,6 +54,7 @@ impl<'a> Case<'a> {
             "spin" => Ok(Case::Run(Run::of_words(Format::Image, rest)?)),
             "made" => Ok(Case::Run(Run::of_words(Format::Source { short: false }, rest)?)),
             "build" => Ok(Case::Written(Written::of_words(Command::Build, rest)?)),
+            "short" => Ok(Case::Written(Written::of_words(Command::Short, rest)?)),
             "list" => Ok(Case::Written(Written::of_words(Command::List, rest)?)),
             "refused" => Ok(Case::Unbuilt(Unbuilt::of_words(rest)?)),
             "stops" => Ok(Case::Stopped(Stopped::of_words(rest)?)),

@@ -16,6 +16,8 @@ const MARK: &str = "## ";
 pub enum Command {
     /// The bytes of its image.
     Build,
+    /// The bytes of its image with shorter code.
+    Short,
     /// Its listing.
     List,
 }
@@ -65,6 +67,14 @@ pub fn shelved<R: Files + Alloc<A = Global>>(rt: &R, project: &str) -> anyhow::R
     }
 }
 
+/// Whether a project is built to these bytes.
+fn is_built(alloc: Global, short: bool, project: &mut OnShelf, expected: &[u8]) -> bool {
+    match image_of_source(alloc, short, &project.top, &mut project.shelf) {
+        Ok(image) => image.bytes() == expected,
+        Err(_) => false,
+    }
+}
+
 impl<'a> Written<'a> {
     /// The project of a case's words.
     pub fn of_words(command: Command, words: &'a str) -> anyhow::Result<Written<'a>> {
@@ -84,15 +94,8 @@ impl<'a> Written<'a> {
         let expected = fs::read(rt, self.expected)?;
         let mut project = shelved(rt, self.project)?;
         match self.command {
-            Command::Build => match image_of_source(
-                alloc,
-                false,
-                &project.top,
-                &mut project.shelf,
-            ) {
-                Ok(image) => Ok(image.bytes() == expected.as_slice()),
-                Err(_) => Ok(false),
-            },
+            Command::Build => Ok(is_built(alloc, false, &mut project, expected.as_slice())),
+            Command::Short => Ok(is_built(alloc, true, &mut project, expected.as_slice())),
             Command::List => match listing_of_source(
                 alloc,
                 false,
