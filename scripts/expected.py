@@ -19,7 +19,7 @@ def shown_line(content, number):
         units = [one for (one,) in struct.iter_unpack("<H", body[: len(body) // 2 * 2])]
         characters = units + ([body[-1]] if len(body) % 2 else [])
     else:
-        characters = list(content)
+        characters = list(content.removeprefix(b"\xef\xbb\xbf"))
     line, shown, before = 1, "", None
     for one in characters:
         if before == 13 and one != 10 or before == 10:
@@ -246,10 +246,10 @@ def picture(trace, script, view):
             row += (high if changes[at - 1][1] else low) if is_constant else changing
         lines.append(row)
     if starts:
-        ticks = starts[::10]
-        lines += [
-            "    " + "".join(text.ljust(10) for text in row).rstrip() for row in (["|"] * len(ticks), map(str, ticks))
-        ]
+        # Clocks of ten digits stand at every second tick.
+        step = 20 if starts[-1] >= 10**9 else 10
+        lines.append("    " + "".join("|".ljust(10) for _ in starts[::10]).rstrip())
+        lines.append("    " + "".join(str(clock).ljust(step) for clock in starts[::step]).rstrip())
     return "".join(line + "\n" for line in lines).encode()
 
 
@@ -387,7 +387,7 @@ def is_drawn(text):
     return all(part and int(part[1]) <= int(part[2] or part[1]) <= 31 for part in parts)
 
 
-CLOCKS, TURNS, KEPT = number(0, 100_000_000), number(0, 1_000_000), number(0, 40_000)
+CLOCKS, SHOWN_CLOCKS, TURNS, KEPT = number(0, 100_000_000), number(0, 4_000_000_000), number(0, 1_000_000), number(0, 40_000)
 PIN, BITS, START, SEED = number(0, 31), number(2, 10_000), number(1, 100_000_000), number(0, 0xFFFFFFFF)
 RUN = {"--pins": anything, "--turns": TURNS}
 COMMANDS = {
@@ -397,11 +397,11 @@ COMMANDS = {
     "check": ([anything, anything], {"--pins": anything, "--raw": None}),
     "serial": ([anything, CLOCKS, PIN, BITS], {**RUN, "--raw": None}),
     "type": ([anything, PIN, BITS, START], {}),
-    "wave": ([anything, CLOCKS], {**RUN, "--raw": None, "--all": None, "--pins-only": None, "--alone": None}),
+    "wave": ([anything, SHOWN_CLOCKS], {**RUN, "--raw": None, "--all": None, "--pins-only": None, "--alone": None}),
     "convert": ([is_image], {}), "make": ([SEED], {"--alone": None}), "map": ([anything], {}), "explain": ([anything], {}), "hint": ([anything], {}),
-    "plot": ([anything, CLOCKS, is_drawn], {**RUN, "--raw": None, "--ascii": None, "--alone": None}),
-    "view": ([anything, CLOCKS], {
-        **RUN, "--alone": None, "--raw": None, "--cog": number(0, 7), "--from": CLOCKS, "--to": CLOCKS, "--pins-only": None, "--quiet": None,
+    "plot": ([anything, SHOWN_CLOCKS, is_drawn], {**RUN, "--raw": None, "--ascii": None, "--alone": None}),
+    "view": ([anything, SHOWN_CLOCKS], {
+        **RUN, "--alone": None, "--raw": None, "--cog": number(0, 7), "--from": SHOWN_CLOCKS, "--to": SHOWN_CLOCKS, "--pins-only": None, "--quiet": None,
         "--dump": anything,
     }),
 }  # fmt: skip

@@ -94,6 +94,9 @@ class Spin:
         self.lines.append("DAT")
         self.names.labels.append("code")
         self.lines.append("code mov t, #1")
+        local = random.choice(["loop", "next", "add", "file", "repeat", "if_z"])
+        if self.chance(0.3):
+            self.lines.append(f":{local} djnz t, #:{local}")
         for _ in range(random.randrange(6)):
             self.lines.append("  " + self.instruction())
         self.lines += random.choice([["  jmp #code"], ["  cogid t", "  cogstop t"], []])
@@ -192,6 +195,9 @@ class Spin:
                 lambda: f"lookup({self.expression(0)}: {self.number()}, {self.expression(depth - 1)}..{self.number()})",
                 lambda: f"lookdownz({self.expression(depth - 1)}: {self.number()}, {self.number()})",
                 lambda: 'strsize(string("some text"))',
+                lambda: f"strsize(string({self.characters()}))",
+                lambda: f'lookup({self.expression(depth - 1)}: "xyz", {self.number()}, "!?")',
+                lambda: f'lookdown({self.expression(depth - 1)}: {self.number()}, "some text")',
                 lambda: f"constant({self.random.randrange(99)} + {self.random.randrange(99)})",
                 lambda: self.call(depth - 1),
                 lambda: f"{self.variable()} := {self.expression(depth - 1)}",
@@ -199,6 +205,12 @@ class Spin:
                 lambda: random.choice(self.locals) + random.choice(["++", "--", "~", "~~"]),
             ]
         )()
+
+    def characters(self):
+        """The items of a text: texts, characters and numbers from 1 to 255."""
+        random = self.random
+        items = ['"some text"', '"A"', '"a" + 1', "13", "10", "$FF", str(random.randrange(1, 256))]
+        return ", ".join(random.choice(items) for _ in range(random.choice([1, 2, 2, 3, 9])))
 
     def call(self, depth):
         """A call of a method with arguments, by a way that an expression allows."""

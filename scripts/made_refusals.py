@@ -6,7 +6,7 @@ import re
 NAMES = {
     12: "NotConstant", 13: "ZeroDivisor", 14: "Duplicate", 15: "Unknown", 16: "WrongKind", 17: "WrongArity", 18: "NoPub", 19: "Cycle",
     20: "TooManyObjects", 21: "OperandRange", 22: "FitExceeded", 23: "OrgRange", 24: "NoRetLabel", 25: "JumpTooFar", 26: "FrameTooLarge",
-    27: "TooManyMethods", 28: "ImageTooLarge", 29: "BadClock",
+    27: "TooManyMethods", 28: "ImageTooLarge", 29: "BadClock", 31: "NotCharacter",
 }  # fmt: skip
 
 # Stands before what is refused, and is left out.
@@ -18,6 +18,7 @@ BLOCKS = {
         "CON\n  zc = ¤v0\n", "CON\n  zc = 2 * (¤zc + 1)\n", "CON\n  zc = ¤cogid\n", "CON\n  za = ¤zb\n  zb = za\n",
         "VAR\n  long zv[¤v0]\n", "DAT\n  long 1, ¤v0\n", "DAT\n  org 1 + ¤v0\n", "PRI zm | zl[¤v0]\n",
         "PRI zm\n  return constant(1 + ¤v0)\n", "PRI zm(p)\n  return constant(¤p)\n",
+        'PRI zm\n  return string("ab", ¤v0)\n', 'CON\n  zc = ¤string("a", 13)\n', 'DAT\n  byte 1, ¤string("a", 13)\n',
     ],
     13: [
         "CON\n  zc = 1 ¤/ 0\n", "CON\n  zc = 7 ¤// (3 - 3)\n", "DAT\n  long 5 ¤/ 0\n", "VAR\n  long zv[4 ¤/ 0]\n",
@@ -35,9 +36,13 @@ BLOCKS = {
     23: ["DAT\n  ¤org 497\n", "DAT\n  ¤org -1\n", "CON\n  zc = 1000\nDAT\n  ¤org zc\n"],
     24: [
         "DAT\nzl nop\n  ¤call #zl\n", "CON\n  zl_ret = 1\nDAT\nzl nop\n  ¤call #zl\n", "DAT\nzl nop\n:in nop\n  if_z ¤call #:in\n",
-        "DAT\nzl nop\nzm_ret ret\n  ¤call #zl\n",
+        "DAT\nzl nop\nzm_ret ret\n  ¤call #zl\n", "DAT\nzl nop\n:next nop\n  ¤call #:next\n",
     ],
     26: ["PRI ¤zm | za[2048]\n", "PRI ¤zm(p) | za[2000], zb[47]\n"],
+    31: [
+        'PRI zm\n  return string("ab", ¤0)\n', "PRI zm\n  return string(¤256)\n", 'PRI zm\n  return string(13, ¤-1, "x", 0)\n',
+        'CON\n  zc = 300\nPRI zm\n  return string("a", 10, ¤zc)\n',
+    ],
 }  # fmt: skip
 
 # How many assignments make a body whose end is too far from its begin.
@@ -98,7 +103,7 @@ def fault(random, number, name, text):
 
 
 # Those that damage seldom comes to are made most often; the bodies of 25 are long.
-NUMBERS = [12, 13, 16, 19, 20, 23, 24, 27] * 3 + [14, 15, 17, 18, 21, 22, 25, 26, 28, 29]
+NUMBERS = [12, 13, 16, 19, 20, 23, 24, 27, 31] * 3 + [14, 15, 17, 18, 21, 22, 25, 26, 28, 29]
 OF_THE_TOP_FILE = (18, 28, 29)
 
 

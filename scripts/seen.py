@@ -11,6 +11,19 @@ ADDRESSES = 1 << 16
 # Maps
 
 
+ITEM = re.compile(r'"[^"]+"|\d+')
+
+
+def text_of_items(items):
+    """The bytes of a text that is told as the items of a STRING; None where it isn't told so."""
+    if items == '""':
+        return b""
+    found = ITEM.findall(items)
+    if ", ".join(found) != items:
+        return None
+    return b"".join(it[1:-1].encode("latin-1") if it[0] == '"' else bytes([int(it)]) for it in found)
+
+
 def map_rows(text):
     """The lines of a map, each with its address, its kind and its further words; those of frames have the offset as text."""
     rows = []
@@ -124,8 +137,8 @@ def map_faults(rows, image, listing):
                 faults.append(f"{kind} {rest} at {place}")
             expected_offset += 4 * int(rest.split(" ")[1])
         elif kind == "string":
-            text = rest[1:-1].encode("latin-1") + b"\0"
-            if image[place : place + len(text)] != text:
+            text = text_of_items(rest)
+            if text is None or image[place : place + len(text) + 1] != text + b"\0":
                 faults.append(f"string {rest} at {place:04X}")
     return faults
 
