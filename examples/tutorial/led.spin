@@ -6,4 +6,4 @@ PUB main
   dira[4]~~                             ' pin 4 is an output
   repeat
     !outa[4]                            ' turn the LED on, or off
-    waitcnt(clkfreq / 1000 + cnt)       ' wait for a millisecond
+    waitcnt(clkfreq / 2 + cnt)          ' wait for half a second
