@@ -210,9 +210,9 @@ static EXPLAINED: [Case; 23] = [
             The number of arguments isn't that of the method or built-in, or a method has more than 15 parameters.\n\
             Compare the call with the method's first line.\n",
     ),
-    // A mark of UTF-8, a last Ctrl-Z, half a unit, and a character above 127.
+    // A second mark of UTF-8, a last Ctrl-Z, half a unit, and a character above 127.
     (
-        b"\xef\xbb\xbfPUB main\n",
+        b"\xef\xbb\xbf\xef\xbb\xbfPUB main\n",
         1,
         1,
         1,
