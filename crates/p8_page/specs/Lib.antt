@@ -1,0 +1,4 @@
+-- What public contracts cite.
+pub mod Blocks
+pub mod Kept
+pub mod Page
