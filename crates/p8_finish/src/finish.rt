@@ -46,8 +46,7 @@ fn picture(
         ≡ plot_of (world_of history.now.boot script.now history.now.limits) (reverse history.now.turns.list) view.now) }
 {
     let turns = history.turns.as_slice();
-    let limits = history.limits;
-    plot(alloc, script, turns, limits.clocks, limits.turns, view)
+    plot(alloc, &history.boot, script, turns, history.limits, view)
 }
 
 /// What is told of a history that has ended, with the pin script that it was made with.

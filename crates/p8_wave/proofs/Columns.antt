@@ -1,5 +1,5 @@
 -- The columns of a picture follow one another.
-use Rattle.std.proofs.Common.{◌≡◌, ◌∙◌, ap, ap₂, sym, ℕ, zero, suc, ◌+◌, ◌-◌, ◌*◌, ◌<◌, ◌≤◌, List, [], ◌∷◌, ◌++◌, min, map, arith}
+use Rattle.std.proofs.Common.{◌≡◌, ◌∙◌, ap, ap₂, sym, ℕ, zero, suc, ◌+◌, ◌-◌, ◌*◌, ◌<◌, ◌≤◌, List, [], ◌∷◌, ◌++◌, min, max, map, arith}
 use Rattle.std.specs.Int.{div_ceil}
 use Rattle.std.specs.List.{range_with_len}
 use Rattle.std.proofs.lemmas.Grind.{div_ceil_times}
@@ -33,12 +33,14 @@ one-more from end width i so_far more first last before begins ends is =
     ∙ ap (λ (cs : List Column). cs ++ column_at from end width i ∷ []) before
     ∙ sym (map-range_with_len_more (column_at from end width) 0 i i (omega arith))
 
-pub all-columns : (from end shown width : ℕ) → shown ≡ end - from → width ≡ width_of shown → map (column_at from end width) (range_with_len 0 (div_ceil shown width)) ≡ columns_of from end
+pub all-columns : (most from end shown width : ℕ) → shown ≡ end - from → width ≡ width_of (max most 1) shown → map (column_at from end width) (range_with_len 0 (div_ceil shown width)) ≡ columns_of most from end
 unfolding columns_of
-all-columns from end shown width is wide =
+all-columns most from end shown width is wide =
     ap (λ (w : ℕ). map (column_at from end w) (range_with_len 0 (div_ceil shown w))) wide
-    ∙ ap (λ (s : ℕ). map (column_at from end (width_of s)) (range_with_len 0 (div_ceil s (width_of s)))) is
+    ∙ ap (λ (s : ℕ). map (column_at from end (width_of (max most 1) s)) (range_with_len 0 (div_ceil s (width_of (max most 1) s)))) is
 
-pub columns-follow : (from end : ℕ) → Follow 0 (columns_of from end)
+pub columns-follow : (most from end : ℕ) → Follow 0 (columns_of most from end)
 unfolding columns_of
-columns-follow from end = follow-by from end (width_of (end - from)) 0 0 (div_ceil (end - from) (width_of (end - from))) (omega arith) (omega arith) (omega arith)
+columns-follow most from end =
+    let width = width_of (max most 1) (end - from) in
+    follow-by from end width 0 0 (div_ceil (end - from) width) (omega arith) (omega arith) (omega arith)

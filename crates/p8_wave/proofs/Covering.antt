@@ -1,5 +1,5 @@
 -- The columns of a picture cover the clocks that are shown.
-use Rattle.std.proofs.Common.{◌≡◌, ◌∙◌, ap, ap₂, sym, ℕ, zero, suc, ◌+◌, ◌-◌, ◌*◌, ◌<◌, ◌≤◌, inl, inr, ◌⊎◌, List, ◌++◌, min, map, flat_map, length, arith}
+use Rattle.std.proofs.Common.{◌≡◌, ◌∙◌, ap, ap₂, sym, ℕ, zero, suc, ◌+◌, ◌-◌, ◌*◌, ◌<◌, ◌≤◌, inl, inr, ◌⊎◌, List, ◌++◌, min, max, map, flat_map, length, arith}
 use Rattle.std.specs.Int.{div_ceil}
 use Rattle.std.specs.List.{range_with_len}
 use Rattle.std.proofs.lemmas.Bool.{cases_lt}
@@ -30,27 +30,35 @@ covered-by from end width i (suc n) wide all =
     ∙ sym (range-both first here_end rest)
     ∙ ap (range_with_len first) (omega (arith, here))
 
-pub columns-covered : (from end : ℕ) → flat_map clocks_of (columns_of from end) ≡ range_with_len from (end - from)
+pub columns-covered : (most from end : ℕ) → flat_map clocks_of (columns_of most from end) ≡ range_with_len from (end - from)
 unfolding columns_of
-columns-covered from end =
-    covered-by from end (width_of (end - from)) 0 (div_ceil (end - from) (width_of (end - from))) (omega arith) (omega arith)
-    ∙ ap₂ range_with_len (omega arith) (omega arith)
+columns-covered most from end =
+    let width = width_of (max most 1) (end - from) in
+    covered-by from end width 0 (div_ceil (end - from) width) (omega arith) (omega arith) ∙ ap₂ range_with_len (omega arith) (omega arith)
 
-pub few-by : (shown : ℕ) → div_ceil shown (width_of shown) ≤ 110
-few-by shown = elim (cases_lt 110 (div_ceil shown (width_of shown))) [
+-- no more columns than there may be
+few-by : (most shown width : ℕ) → 0 < most → 0 < width → div_ceil shown most ≤ width → div_ceil shown width ≤ most
+few-by most shown width some wide fits = elim (cases_lt most (div_ceil shown width)) [
   | inr few ↦ few
   | inl many ↦
-      let wide : 0 < width_of shown = omega arith in
-      let room : 111 * width_of shown ≤ div_ceil shown (width_of shown) * width_of shown = mul-le 111 (width_of shown) (div_ceil shown (width_of shown)) (width_of shown) (omega (arith, many)) (omega arith) in
-      absurd (omega (arith, room, (div_ceil_times shown (width_of shown) wide).1, (div_ceil_times shown 110 (omega arith)).0))
+      let room : (most + 1) * width ≤ div_ceil shown width * width = mul-le (most + 1) width (div_ceil shown width) width (omega (arith, many)) (omega arith) in
+      let more : (most + 1) * width ≡ width * most + width = grind arith in
+      let held : div_ceil shown most * most ≤ width * most = mul-le (div_ceil shown most) most width most fits (omega arith) in
+      absurd (omega (arith, room, more, held, (div_ceil_times shown width wide).1, (div_ceil_times shown most some).0))
 ]
 
-pub columns-fit : (from end : ℕ) → length (columns_of from end) ≤ 110
-unfolding columns_of
-columns-fit from end =
-    omega (arith, length-map-range_with_len (column_at from end (width_of (end - from))) 0 (div_ceil (end - from) (width_of (end - from))), few-by (end - from))
+pub few-columns : (most from end : ℕ) → 0 < most → div_ceil (end - from) (width_of (max most 1) (end - from)) ≤ most
+few-columns most from end some =
+    let is : max most 1 ≡ most = omega (arith, some) in
+    rw is (few-by most (end - from) (width_of most (end - from)) some (omega arith) (omega arith))
 
-pub width-least : (shown width : ℕ) → 0 < width → div_ceil shown width ≤ 110 → width_of shown ≤ width
-width-least shown width wide fits =
-    let most : div_ceil shown width * width ≤ 110 * width = mul-le (div_ceil shown width) width 110 width fits (omega arith) in
-    omega (arith, wide, most, (div_ceil_times shown width wide).0, (div_ceil_times shown 110 (omega arith)).1)
+pub columns-fit : (most from end : ℕ) → 0 < most → length (columns_of most from end) ≤ most
+unfolding columns_of
+columns-fit most from end some =
+    let width = width_of (max most 1) (end - from) in
+    omega (arith, length-map-range_with_len (column_at from end width) 0 (div_ceil (end - from) width), few-columns most from end some)
+
+pub width-least : (most shown width : ℕ) → 0 < most → 0 < width → div_ceil shown width ≤ most → width_of most shown ≤ width
+width-least most shown width some wide fits =
+    let least : div_ceil shown most ≤ width = few-by width shown most wide some fits in
+    omega (arith, wide, least)

@@ -12,7 +12,9 @@ mod Whole
 mod Columns
 mod Covering
 mod Fitting
+mod Lasting
 mod Marking
 mod Plotting
 mod PlotRanges
 mod Staying
+mod Ended

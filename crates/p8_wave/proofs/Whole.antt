@@ -11,7 +11,7 @@ use Rattle.p8_wave.specs.declared.variables.Scope.{Scope}
 use Rattle.p8_wave.specs.Variables.{scopes, variables}
 use Rattle.p8_wave.specs.Values.{changes, shown}
 use Rattle.p8_wave.specs.Scale.{frequency, period_of, scale_text}
-use Rattle.p8_wave.specs.Wave.{head_text, first_text, wave_of, changes_text}
+use Rattle.p8_wave.specs.Wave.{head_text, first_text, signals_of, changes_text}
 use Rattle.p8_wave.specs.Sections.{entry_of, head_of, first_of, IsWalked}
 use Rattle.p8_wave.proofs.Sectioning.{all_variables, scope_all, shown_entries, values_shown}
 
@@ -30,7 +30,7 @@ module _ (w : World) (past : List Turn) (selection : Selection) (f : ℕ) (perio
       ap (first_of walk.first) (is₃ ∙ shown_es)
       ∙ ap (λ xs. codes "#0\n$dumpvars\n" ++ xs ++ codes "$end\n") (values_shown w past 0 walk.first walked.first (changes w past) (λ (v : Variable). selection.all || changes w past v) (variables selection.pins_only) (all_variables selection.pins_only))
 
-  pub whole : (start out₁ out₂ out₃ last : List ℕ) → start ≡ [] → out₁ ≡ start ++ head_of f period e₂ → out₂ ≡ out₁ ++ first_of walk.first e₃ → last ≡ walk.sections.text.items → out₃ ≡ out₂ ++ last → out₃ ≡ wave_of w past selection
+  pub whole : (start out₁ out₂ out₃ last : List ℕ) → start ≡ [] → out₁ ≡ start ++ head_of f period e₂ → out₂ ≡ out₁ ++ first_of walk.first e₃ → last ≡ walk.sections.text.items → out₃ ≡ out₂ ++ last → out₃ ≡ signals_of w past selection
   whole start out₁ out₂ out₃ last empty one two is_last three =
       three ∙ ap (λ xs. out₂ ++ xs) (is_last ∙ walked.text)
       ∙ ap (λ xs. xs ++ changes_text w past (variables selection.pins_only)) (two ∙ ap (λ xs. out₁ ++ xs) first ∙ ap (λ xs. xs ++ first_text w past (shown w past selection)) (one ∙ ap (λ xs. xs ++ head_of f period e₂) empty ∙ head))

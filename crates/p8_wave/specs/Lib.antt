@@ -2,7 +2,9 @@
 pub mod Variables
 pub mod Values
 pub mod Scale
+pub mod Ending
 pub mod Wave
+pub mod Axes
 pub mod Plot
 -- Internal.
 pub mod Following

@@ -1,9 +1,9 @@
--- A picture of pins as text: a line for each pin with a mark for each column, then ticks, and the clocks at the ticks.
+-- A picture of pins as text: a line for each pin with a mark for each column, what stands below them, and what ended the run.
 -- Source: this project's profile. A past is a list of turns, the newest first.
-use Rattle.std.specs.Prelude.{ℕ, ◌+◌, ◌-◌, ◌*◌, ◌%◌, ◌==◌, nat_le, nat_lt, min, max, if◌then◌else◌, Bool, true, false, not, List, [], ◌∷◌, ◌++◌, codes, filter, flat_map, map, length, replicate}
+use Rattle.std.specs.Prelude.{ℕ, ◌+◌, ◌-◌, ◌*◌, nat_lt, min, max, if◌then◌else◌, Bool, true, false, not, List, [], ◌∷◌, ◌++◌, codes, flat_map, map}
 use Rattle.std.specs.Fmt.{decimal}
 use Rattle.std.specs.Int.{div_ceil}
-use Rattle.std.specs.List.{list_all, list_any, range_with_len}
+use Rattle.std.specs.List.{list_all, range_with_len}
 use Rattle.p8_access.specs.declared.order.Turn.{Turn}
 use Rattle.p8_access.specs.Worlds.{World}
 use Rattle.p8_pins.specs.Levels.{is_high, high_at, end_of}
@@ -11,10 +11,13 @@ use Rattle.p8_wave.specs.declared.grid.Column.{Column}
 use Rattle.p8_wave.specs.declared.mark.Mark.{Mark}
 use Rattle.p8_wave.specs.declared.mark.Mark.TheVariants.{Low, High, Changing}
 use Rattle.p8_wave.specs.declared.view.View.{View}
+use Rattle.p8_wave.specs.Axes.{scale_of}
+use Rattle.p8_wave.specs.Ending.{end_text}
+use Rattle.p8_wave.specs.Scale.{rate}
 
--- how many clocks a column covers, where so many are shown: as few as fit into 110 columns
-abbrev pub width_of : (shown : ℕ) → ℕ
-width_of shown = max (div_ceil shown 110) 1
+-- how many clocks a column covers, where so many are shown in at most so many columns: as few as can be
+abbrev pub width_of : (most shown : ℕ) → ℕ
+width_of most shown = max (div_ceil shown most) 1
 
 -- a column of this width, of those for the clocks from one on and before an end
 abbrev pub column_at : (from end width number : ℕ) → Column
@@ -25,8 +28,9 @@ column_at from end width number =
 abbrev pub columns_by : (from end width : ℕ) → List Column
 columns_by from end width = map (column_at from end width) (range_with_len 0 (div_ceil (end - from) width))
 
-unfoldable pub columns_of : (from end : ℕ) → List Column
-columns_of from end = columns_by from end (width_of (end - from))
+-- at most so many columns; one where that is 0
+unfoldable pub columns_of : (most from end : ℕ) → List Column
+columns_of most from end = columns_by from end (width_of (max most 1) (end - from))
 
 -- the clocks that a column covers
 abbrev pub clocks_of : Column → List ℕ
@@ -56,42 +60,18 @@ abbrev pub pin_line : (high : ℕ → Bool) (ascii : Bool) (columns : List Colum
 pin_line high ascii columns pin =
     label_of pin ++ flat_map (λ column. text_of_mark ascii (mark_of high column)) columns ++ codes "\n"
 
--- the first column, and from there on one of so many
-abbrev pub every : (step : ℕ) → List Column → List Column
-every step columns = filter (λ column. column.number % step == 0) columns
-
--- texts that begin so many characters apart, with spaces between them, and so many before the first
-abbrev pub apart : (step before : ℕ) → List (List ℕ) → List ℕ
-apart step before [] = []
-apart step before (text ∷ texts) = replicate before 32 ++ text ++ apart step (step - length text) texts
-
--- a line with a tick at every tenth column
-abbrev pub tick_line : List Column → List ℕ
-tick_line columns = apart 10 4 (map (λ column. codes "|") (every 10 columns)) ++ codes "\n"
-
--- how many columns there are for a clock: as many as for a tick, and twice as many where a column begins at a clock of ten digits
-abbrev pub step_of : List Column → ℕ
-step_of columns = if list_any (λ column. nat_le 1000000000 column.first) columns then 20 else 10
-
--- a line with the clocks at which columns with ticks begin
-abbrev pub clock_line_by : (step : ℕ) → List Column → List ℕ
-clock_line_by step columns = apart step 4 (map (λ column. decimal column.first) (every step columns)) ++ codes "\n"
-
-abbrev pub clock_line : List Column → List ℕ
-clock_line columns = clock_line_by (step_of columns) columns
-
--- both lines; neither where there are no columns
-abbrev pub scale_of : List Column → List ℕ
-scale_of [] = []
-scale_of (column ∷ columns) = tick_line (column ∷ columns) ++ clock_line (column ∷ columns)
-
--- the picture of the pins whose bits are set, from pin 0 on, each with the clocks at which it is high
-unfoldable pub picture_of : (high : (pin : ℕ) → ℕ → Bool) (ascii : Bool) (columns : List Column) (pins : ℕ) → List ℕ
-picture_of high ascii columns pins =
+-- the picture of the pins whose bits are set, from pin 0 on, each with the clocks at which it is high, and below them what is told of so many clocks
+-- of a frequency
+unfoldable pub picture_of : (high : (pin : ℕ) → ℕ → Bool) (ascii : Bool) (columns : List Column) (pins frequency shown : ℕ) → List ℕ
+picture_of high ascii columns pins frequency shown =
     flat_map (λ pin. if is_high pin pins then pin_line (high pin) ascii columns pin else []) (range_with_len 0 32)
-    ++ scale_of columns
+    ++ scale_of frequency shown columns
 
--- the picture of a run: the clocks from the view's first one on that are before its end and the run's
+-- that of the clocks of a run from the view's first one on that are before an end
+abbrev pub shown_of : World → List Turn → View → (end : ℕ) → List ℕ
+shown_of w past view end =
+    picture_of (high_at w past) view.ascii (columns_of view.columns view.from end) view.pins (rate w) (end - view.from)
+
+-- the picture of a run: the clocks before the view's end and the run's, and what ended the run
 unfoldable pub plot_of : World → List Turn → View → List ℕ
-plot_of w past view =
-    picture_of (high_at w past) view.ascii (columns_of view.from (min view.to (end_of w past))) view.pins
+plot_of w past view = shown_of w past view (min view.to (end_of w past)) ++ (end_text w past ++ codes "\n")

@@ -1,4 +1,4 @@
--- The time scale of a wave: what a clock lasts.
+-- What a clock lasts, and the time scale of a wave.
 use Rattle.std.specs.Prelude.{ℕ, zero, suc, ◌+◌, ◌*◌, ◌/◌, ◌%◌, ◌^◌, nat_eq, if◌then◌else◌, List, [], ◌++◌, Option, Some, None, codes}
 use Rattle.std.specs.Fmt.{decimal}
 use Rattle.p8_access.specs.declared.kinds.Width.TheVariants.{Long}
@@ -7,13 +7,17 @@ use Rattle.p8_access.specs.declared.kinds.Origin.TheVariants.{Pasm, Spin}
 use Rattle.p8_access.specs.Worlds.{World}
 use Rattle.p8_access.specs.Hub.{value_at}
 
--- the frequency in Hz: an image tells it in its first long; where none is told it is 80 MHz
-abbrev pub frequency_by : Origin → (told : ℕ) → ℕ
-frequency_by (Pasm code par) told = 80000000
-frequency_by (Spin entry pbase vbase frame size) told = if nat_eq told 0 then 80000000 else told
+-- the frequency in Hz that an image tells in its first long; 0 where there is no image
+abbrev pub rate_by : Origin → (told : ℕ) → ℕ
+rate_by (Pasm code par) told = 0
+rate_by (Spin entry pbase vbase frame size) told = told
 
+abbrev pub rate : World → ℕ
+rate w = rate_by w.first (value_at w [] Long 0)
+
+-- the frequency of a wave: 80 MHz where none is told
 unfoldable pub frequency : World → ℕ
-frequency w = frequency_by w.first (value_at w [] Long 0)
+frequency w = if nat_eq (rate w) 0 then 80000000 else rate w
 
 -- how many femtoseconds a clock lasts, where that is a whole number
 unfoldable pub period_of : ℕ → Option ℕ

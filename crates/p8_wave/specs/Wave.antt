@@ -12,6 +12,7 @@ use Rattle.p8_wave.specs.declared.variables.Variable.{Variable}
 use Rattle.p8_wave.specs.Variables.{scopes, variables, width_of, mark_of, name_of, scope_name, is_in}
 use Rattle.p8_wave.specs.Values.{value_at, changes_at, shown, change_clocks}
 use Rattle.p8_wave.specs.Scale.{frequency, period_of, scale_text, time_of}
+use Rattle.p8_wave.specs.Ending.{end_text}
 
 -- a number in this many binary digits
 unfoldable pub binary : ℕ → ℕ → List ℕ
@@ -66,8 +67,16 @@ end_section w past vs end = if nat_eq end 0 then [] else section_text w past vs 
 abbrev pub changes_text : World → List Turn → List Variable → List ℕ
 changes_text w past vs = flat_map (section_text w past vs) (change_clocks w past vs) ++ end_section w past vs (end_of w past)
 
--- the whole text
-abbrev pub wave_of : World → List Turn → Selection → List ℕ
-wave_of w past selection =
+-- what ended the run
+abbrev pub end_comment : World → List Turn → List ℕ
+end_comment w past = codes "$comment " ++ end_text w past ++ codes " $end\n"
+
+-- all that is told of the variables
+abbrev pub signals_of : World → List Turn → Selection → List ℕ
+signals_of w past selection =
     head_text w (shown w past selection) ++ first_text w past (shown w past selection)
     ++ changes_text w past (variables selection.pins_only)
+
+-- the whole text
+abbrev pub wave_of : World → List Turn → Selection → List ℕ
+wave_of w past selection = signals_of w past selection ++ end_comment w past

@@ -6,9 +6,6 @@ ghost use Rattle.p8_wave.specs.Tracing.{Follow};
 use p8_words::NoMemory;
 use std::alloc::Global;
 
-/// How many columns a picture has at most.
-const MOST_COLUMNS: u64 = 110;
-
 /// A column of a picture: its number, from 0 on, and the clocks that it covers, from the first on and before the end.
 #[derive(Clone, Copy)]
 pub struct Column {
@@ -25,14 +22,15 @@ fn push(columns: &mut Vec<Column>, column: Column) -> Result<(), NoMemory>
     Ok(())
 }
 
-/// The columns for the clocks from one on and before an end: as few clocks a column as fit, the last column with what
-/// is left.
-pub fn columns(alloc: Global, from: u64, end: u64) -> Result<Vec<Column>, NoMemory>
-    ensures columns { IfOk result (λ columns. columns.items ≡ columns_of from end) }
+/// The columns for the clocks from one on and before an end: at most so many, but one where that is 0, with as few clocks
+/// in each as can be, and the last column with what is left.
+pub fn columns(alloc: Global, most: u16, from: u64, end: u64) -> Result<Vec<Column>, NoMemory>
+    ensures columns { IfOk result (λ columns. columns.items ≡ columns_of most from end) }
     ensures follow { IfOk result (λ columns. Follow 0 columns.items) }
 {
+    let limit = u64::from(most).max(1);
     let shown = end.saturating_sub(from);
-    let width = shown.div_ceil(MOST_COLUMNS).max(1);
+    let width = shown.div_ceil(limit).max(1);
     let mut columns = Vec::new(alloc);
     for number in 0..shown.div_ceil(width) {
         let first = from + number * width;

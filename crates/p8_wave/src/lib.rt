@@ -5,7 +5,9 @@
 //! changes, and the text. A picture is the levels of pins as text for a terminal.
 #![tactic(auto)]
 
+mod axes;
 mod courses;
+mod ending;
 mod entries;
 mod grid;
 mod heads;
@@ -25,7 +27,7 @@ mod walks;
 mod waves;
 
 pub use picture::plot;
-pub use plot_laws::{columns_cover, lines_fit};
+pub use plot_laws::{columns_cover, lines_fit, texts_apart, times_exact};
 pub use variables::{Scope, Selection, Variable};
 pub use view::View;
 pub use waves::wave;

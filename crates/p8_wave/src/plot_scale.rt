@@ -1,12 +1,11 @@
-// The ticks below a picture, and the clocks at them.
-ghost use Rattle.std.specs.Prelude.{◌≡◌, ◌<◌, ◌++◌, ◌-◌, nat_le, length, IfOk, OnOk};
-ghost use Rattle.std.specs.Fmt.{decimal};
+// The lines below the pins of a picture: ticks, and the clocks and the times at them.
+ghost use Rattle.std.specs.Prelude.{◌≡◌, ◌<◌, ◌++◌, nat_lt, length, OnOk};
 ghost use Rattle.std.specs.List.{list_any};
-ghost use Rattle.p8_wave.specs.Plot.{tick_line, clock_line, clock_line_by, scale_of, step_of};
+ghost use Rattle.p8_wave.specs.Axes.{axis_by, axis_line, scale_of, step_of, text_at, tick_line, time_line, IsTold};
 
+use crate::axes::{Axis, TimeUnit};
 use crate::grid::Column;
 use crate::texts::push_spaces;
-use itoa::Buffer;
 use p8_instr::push_text;
 use p8_words::NoMemory;
 
@@ -28,54 +27,88 @@ fn push_ticks(out: &mut Vec<u8>, columns: &[Column]) -> Result<(), NoMemory>
     push_text(out, b"\n")
 }
 
-/// Whether a column begins at a clock of ten digits.
-fn is_long(columns: &[Column]) -> bool
-    ensures { result ≡ list_any (λ column. nat_le 1000000000 column.first) columns.now }
+/// Whether what an axis tells of a column has more than nine characters.
+fn is_long(axis: Axis, columns: &[Column]) -> bool
+    requires { IsTold axis }
+    ensures { result ≡ list_any (λ column. nat_lt 9 (length (text_at axis column.first))) columns.now }
 {
-    columns.iter().any(|column| column.first >= 1_000_000_000)
+    for column in columns {
+        if axis.length_at(column.first) > 9 {
+            return true;
+        }
+    }
+    false
 }
 
-/// How many columns there are for a clock.
-fn step(columns: &[Column]) -> usize
-    ensures step { result ≡ step_of columns.now }
+/// How many columns there are for what an axis tells.
+fn step(axis: Axis, columns: &[Column]) -> usize
+    requires { IsTold axis }
+    ensures step { result ≡ step_of axis columns.now }
     ensures some { 0 < result }
 {
-    if is_long(columns) { 20 } else { 10 }
+    if is_long(axis, columns) { 20 } else { 10 }
 }
 
-/// Appends a clock, and gives how many of so many characters it leaves.
-fn push_clock(out: &mut Vec<u8>, clock: u64, step: usize) -> Result<usize, NoMemory>
-    ensures text { OnOk result (out.new.items ≡ out.old.items ++ decimal clock) }
-    ensures left { IfOk result (λ left. left ≡ step - length (decimal clock)) }
+/// Appends what an axis tells of every column of so many, and before it what its line begins with.
+fn push_texts(
+    out: &mut Vec<u8>,
+    axis: Axis,
+    columns: &[Column],
+    step: usize,
+) -> Result<(), NoMemory>
+    requires told { IsTold axis }
+    requires step { 0 < step }
+    ensures { OnOk result (out.new.items ≡ out.old.items ++ axis_by step axis columns.now) }
 {
-    let mut buffer = Buffer::new();
-    let text = buffer.format(clock).as_bytes();
-    push_text(out, text)?;
-    Ok(step.saturating_sub(text.len()))
-}
-
-/// Appends the line with the clock at which it begins at every column of so many.
-fn push_clocks(out: &mut Vec<u8>, columns: &[Column], step: usize) -> Result<(), NoMemory>
-    requires { 0 < step }
-    ensures { OnOk result (out.new.items ≡ out.old.items ++ clock_line_by step columns.now) }
-{
-    let mut before = LABEL;
+    push_text(out, axis.label())?;
+    let mut before = 0;
     for column in columns {
         if column.number % step as u64 == 0 {
             push_spaces(out, before)?;
-            before = push_clock(out, column.first, step)?;
+            axis.push_at(out, column.first)?;
+            before = step.saturating_sub(axis.length_at(column.first));
         }
     }
     push_text(out, b"\n")
 }
 
-/// Appends both lines, where there are columns.
-pub fn push_scale(out: &mut Vec<u8>, columns: &[Column]) -> Result<(), NoMemory>
-    ensures { OnOk result (out.new.items ≡ out.old.items ++ scale_of columns.now) }
+/// Appends the line of an axis.
+fn push_axis(out: &mut Vec<u8>, axis: Axis, columns: &[Column]) -> Result<(), NoMemory>
+    requires { IsTold axis }
+    ensures { OnOk result (out.new.items ≡ out.old.items ++ axis_line axis columns.now) }
+{
+    push_texts(out, axis, columns, step(axis, columns))
+}
+
+/// Appends the line of the times, where a frequency is told.
+fn push_times(
+    out: &mut Vec<u8>,
+    columns: &[Column],
+    frequency: u32,
+    shown: u64,
+) -> Result<(), NoMemory>
+    ensures { OnOk result (out.new.items ≡ out.old.items ++ time_line frequency shown columns.now) }
+{
+    if frequency == 0 {
+        return Ok(());
+    }
+    let unit = TimeUnit::for_shown(frequency, shown);
+    push_axis(out, Axis::Times { frequency, unit }, columns)
+}
+
+/// Appends all of them below columns for so many clocks, of a frequency in Hz that is 0 where none is told.
+pub fn push_scale(
+    out: &mut Vec<u8>,
+    columns: &[Column],
+    frequency: u32,
+    shown: u64,
+) -> Result<(), NoMemory>
+    ensures { OnOk result (out.new.items ≡ out.old.items ++ scale_of frequency shown columns.now) }
 {
     if columns.is_empty() {
         return Ok(());
     }
     push_ticks(out, columns)?;
-    push_clocks(out, columns, step(columns))
+    push_axis(out, Axis::Clocks, columns)?;
+    push_times(out, columns, frequency, shown)
 }

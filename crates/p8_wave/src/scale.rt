@@ -1,7 +1,7 @@
-// The time scale of a wave.
+// What a clock lasts, and the time scale of a wave.
 ghost use Rattle.std.specs.Prelude.{◌≡◌, ◌<◌, ◌≤◌, ◌+◌, ◌*◌, ◌^◌, ◌++◌, length, slice_index, OnOk};
 ghost use Rattle.p8_access.specs.Worlds.{World};
-ghost use Rattle.p8_wave.specs.Scale.{frequency, period_of as period_in, power_of, ticks_of, ticks_in, count_text, second_text, unit_text, exact_text, tick_text, scale_text};
+ghost use Rattle.p8_wave.specs.Scale.{frequency, rate, period_of as period_in, power_of, ticks_of, ticks_in, count_text, second_text, unit_text, exact_text, tick_text, scale_text};
 
 use crate::texts::push_numbered;
 use byteorder::{ByteOrder, LittleEndian};
@@ -35,17 +35,24 @@ fn first_long(bytes: &[u8]) -> u32
     LittleEndian::read_u32(bytes)
 }
 
+/// The frequency in Hz that an image tells; 0 where there is no image.
+pub fn rate_of(boot: &Boot) -> u32
+    ensures { (w : World) → w.memory ≡ boot.now.ram → w.first ≡ boot.now.first → result ≡ rate w }
+{
+    match boot.first {
+        Origin::Pasm { .. } => 0,
+        Origin::Spin { .. } => first_long(boot.ram.bytes()),
+    }
+}
+
 /// The frequency of a boot's clock.
 #[tactic(auto, unfolding(crate::specs::Scale::frequency))]
 fn frequency_of(boot: &Boot) -> u32
     ensures frequency { (w : World) → w.memory ≡ boot.now.ram → w.first ≡ boot.now.first → result ≡ frequency w }
     ensures some { 0 < result }
 {
-    let told = first_long(boot.ram.bytes());
-    match boot.first {
-        Origin::Pasm { .. } => USUAL,
-        Origin::Spin { .. } => { if told == 0 { USUAL } else { told } }
-    }
+    let told = rate_of(boot);
+    if told == 0 { USUAL } else { told }
 }
 
 /// How many femtoseconds a clock of this frequency lasts, where that is a whole number.

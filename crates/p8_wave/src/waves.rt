@@ -6,9 +6,10 @@ ghost use Rattle.p8_access.specs.Histories.{Rises};
 ghost use Rattle.p8_ledger.specs.Worlds.{world_of};
 ghost use Rattle.p8_wave.specs.Variables.{variables};
 ghost use Rattle.p8_wave.specs.Scale.{frequency, period_of};
-ghost use Rattle.p8_wave.specs.Wave.{wave_of};
+ghost use Rattle.p8_wave.specs.Wave.{signals_of, wave_of};
 ghost use Rattle.p8_wave.specs.Sections.{IsWalked};
 
+use crate::ending::push_end;
 use crate::entries::shown;
 use crate::heads::{push_first, push_head};
 use crate::scale::Scale;
@@ -20,7 +21,7 @@ use p8_pins::{PinScript, run_end};
 use p8_words::NoMemory;
 use std::alloc::Global;
 
-/// The whole text, where a walk has been made.
+/// All that is told of the variables, where a walk has been made.
 fn text(
     alloc: Global,
     scale: &Scale,
@@ -31,7 +32,7 @@ fn text(
         → scale.now.frequency ≡ frequency w
         → scale.now.period ≡ period_of scale.now.frequency
         → IsWalked w past (variables selection.pins_only) walk.now
-        → IfOk result (λ text. text.items ≡ wave_of w past selection) }
+        → IfOk result (λ text. text.items ≡ signals_of w past selection) }
 {
     let shown = shown(alloc, &walk.sections.entries, selection.all)?;
     let mut out = Vec::new(alloc);
@@ -46,8 +47,8 @@ fn text(
 ///
 /// `script` is the pin script of the run. A variable stands in the text where it changes in the run, or always
 /// where `selection.all` is true; where `selection.pins_only` is true, the pins and the locks alone may stand,
-/// so that each variable has one bit. The keys of the turns rise, as in each history of a run. The only error
-/// is want of memory.
+/// so that each variable has one bit. A comment at the end tells how many turns were made, the last one's clock, and
+/// why there are no more. The keys of the turns rise, as in each history of a run. The only error is want of memory.
 pub fn wave(
     alloc: Global,
     history: &History,
@@ -70,5 +71,15 @@ pub fn wave(
         scale.ticks(),
         selection.pins_only,
     )?;
-    text(alloc, &scale, &walk, selection)
+    let mut text = text(alloc, &scale, &walk, selection)?;
+    let limits = history.limits;
+    push_end(
+        &mut text,
+        b"$comment ",
+        turns,
+        limits.turns,
+        limits.clocks,
+        b" $end\n",
+    )?;
+    Ok(text)
 }

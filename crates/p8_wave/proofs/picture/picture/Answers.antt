@@ -1,7 +1,8 @@
 use Rattle.std.proofs.Common.{◌≡◌, ◌∙◌, ap, sym, List, ℕ, ◌++◌, flat_map, arith}
 use Rattle.std.specs.List.{range_with_len}
 use Rattle.p8_pins.specs.LevelChanges.{lines_of}
-use Rattle.p8_wave.specs.Plot.{picture_of, scale_of}
+use Rattle.p8_wave.specs.Axes.{scale_of}
+use Rattle.p8_wave.specs.Plot.{picture_of}
 use Rattle.p8_wave.specs.Tracing.{line_of_pin}
 use Rattle.p8_wave.proofs.PlotRanges.{flat_map-more}
 use Rattle.p8_wave.proofs.picture.picture.Goals as goal
@@ -17,4 +18,4 @@ returns c =
     let line = line_of_pin (lines_of c.args.changes.now) c.args.view.now c.args.columns.now in
     let all : c.loop-pin.pin ≡ 32 = omega (arith, c.loop-pin.auto.pin-end, c.loop-pin-test.false) in
     c.in_ok-push_scale.ensures
-    ∙ ap (λ (out : List ℕ). out ++ scale_of c.args.columns.now) (c.loop-pin.invariant ∙ ap (λ (n : ℕ). flat_map line (range_with_len 0 n)) all)
+    ∙ ap (λ (out : List ℕ). out ++ scale_of c.args.frequency c.args.shown c.args.columns.now) (c.loop-pin.invariant ∙ ap (λ (n : ℕ). flat_map line (range_with_len 0 n)) all)

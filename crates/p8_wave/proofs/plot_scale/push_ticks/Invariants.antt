@@ -1,6 +1,6 @@
 use Rattle.std.proofs.Common.{◌≡◌, ◌++◌, codes, drop, map}
 use Rattle.p8_wave.specs.declared.grid.Column.{Column}
-use Rattle.p8_wave.specs.Plot.{apart, every}
+use Rattle.p8_wave.specs.Axes.{apart, every}
 use Rattle.p8_wave.proofs.plot_scale.push_ticks.Given as goal
 
 abbrev pub invariant-loop-column : goal.invariant-loop-column
