@@ -1,4 +1,8 @@
 mod Rows
+mod Called
+mod Constancy
+mod Miscounted
+mod Knowing
 pub mod Lists
 mod Firsts
 pub mod Methods

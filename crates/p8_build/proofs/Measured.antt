@@ -1,12 +1,14 @@
 -- What a refusal tells is of one size.
-use Rattle.std.proofs.Common.{◌≡◌, inl, inr, ℕ, ◌^◌, ◌==◌, min, true, false, List, length, slice_get, Option, Some, refl, ap, sym, ◌∙◌, subst, arith}
+use Rattle.std.proofs.Common.{◌≡◌, inl, inr, ℕ, ◌^◌, ◌<◌, ◌==◌, min, true, false, List, length, slice_get, Option, Some, refl, ap, sym, ◌∙◌, subst, arith}
 use Rattle.std.proofs.lemmas.Bool.{cases_order}
 use Rattle.p8_tree.specs.declared.places.Place.{Place}
 use Rattle.p8_tree.specs.Sources.{MethodTree}
 use Rattle.p8_tree.specs.Projects.{NamedSource}
 use Rattle.p8_tree.specs.declared.faults.Fault.{Fault}
 use Rattle.p8_tree.specs.Faults.{PhaseFault, IsFirstRefusal}
-use Rattle.p8_tree.specs.declared.refusal.Refusal.TheVariants.{FrameTooLarge, ImageTooLarge}
+use Rattle.p8_tree.specs.declared.refusal.Refusal.{Refusal}
+use Rattle.p8_tree.specs.declared.refusal.Refusal.TheVariants.{WrongArity, FrameTooLarge, ImageTooLarge}
+use Rattle.p8_tree.specs.Refusals.{refusal_number}
 use Rattle.p8_constants.specs.FileItems.{items}
 use Rattle.p8_kinds.specs.declared.children.Children.{Children}
 use Rattle.p8_names.specs.Kinds.{numbered}
@@ -18,7 +20,8 @@ use Rattle.p8_stmt.specs.declared.frames.MethodSize.{MethodSize}
 use Rattle.p8_stmt.specs.Methods.{size_of}
 use Rattle.p8_build.specs.Files.{method_names, IsData}
 use Rattle.p8_build.specs.Builds.{IsRefusal}
-use Rattle.p8_build.specs.Sizes.{IsSizeAt, tells, IsSizeOf, of_method, of_image, of_none, IsMeasured}
+use Rattle.p8_build.specs.Arguments.{arguments_at}
+use Rattle.p8_build.specs.Sizes.{IsSizeAt, tells, IsSizeOf, of_arguments, of_method, of_image, of_none, IsMeasured}
 use Rattle.p8_build.specs.declared.sizes.Size.{Size}
 use Rattle.p8_build.specs.declared.sizes.Size.TheVariants as size_case
 use Rattle.p8_build.proofs.Firsts.{one_first}
@@ -46,14 +49,22 @@ one_size_at names ms place s t a b = elim (cases_order a.k b.k) [
 contrary : true ≡ false → ⊥
 contrary h = absurd cc
 
-two_phases : (r : PhaseFault) → tells r 2 FrameTooLarge ≡ true → tells r 3 ImageTooLarge ≡ true → ⊥
-two_phases r a b =
-    let second : r.phase ≡ 2 = equal r.phase 2 (both (r.phase == 2) (r.fault.number == 26) a).0 in
-    let third : r.phase ≡ 3 = equal r.phase 3 (both (r.phase == 3) (r.fault.number == 28) b).0 in
-    omega (arith, second, third)
+phase_is : (r : PhaseFault) (phase : ℕ) (refused : Refusal) → tells r phase refused ≡ true → r.phase ≡ phase
+phase_is r phase refused h = equal r.phase phase (both (r.phase == phase) (r.fault.number == refusal_number refused) h).0
+
+-- two sizes of two phases
+two_phases : (r : PhaseFault) (p q : ℕ) (m n : Refusal) → p < q → tells r p m ≡ true → tells r q n ≡ true → ⊥
+two_phases r p q m n l a b = omega (arith, l, phase_is r p m a, phase_is r q n b)
 
 module _ (files : List NamedSource) (children : List Children) (beside : length children ≡ length files) where
   one_size_of : (r : PhaseFault) (s t : Option Size) → IsSizeOf files children r s → IsSizeOf files children r t → s ≡ t
+  one_size_of r s t (of_arguments f seen told is e) (of_arguments g other also there i) =
+      let same = one_file is there in
+      e ∙ ap (λ (h : NamedSource). arguments_at h.tree seen r.fault.place) same.0 ∙ ap (λ (c : Children). arguments_at g.tree c r.fault.place) same.1 ∙ sym i
+  one_size_of r s t (of_arguments f seen told is e) (of_method g other y b also there names made here i) = absurd (two_phases r 0 2 WrongArity FrameTooLarge (omega arith) told also)
+  one_size_of r s t (of_arguments f seen told is e) (of_image ys also each i) = absurd (two_phases r 0 3 WrongArity ImageTooLarge (omega arith) told also)
+  one_size_of r s t (of_arguments f seen told is e) (of_none neither nor none i) = absurd (contrary (sym told ∙ neither))
+  one_size_of r s t (of_method f seen x a told is named dat at e) (of_arguments g other also there i) = absurd (two_phases r 0 2 WrongArity FrameTooLarge (omega arith) also told)
   one_size_of r s t (of_method f seen x a told is named dat at e) (of_method g other y b also there names made here i) =
       let same = one_file is there in
       let names_here : IsNamed f.tree seen (r.file == 0) y.kinds = subst (λ (c : Children). IsNamed f.tree c (r.file == 0) y.kinds) (sym same.1) (subst (λ (h : NamedSource). IsNamed h.tree other (r.file == 0) y.kinds) (sym same.0) names) in
@@ -64,15 +75,17 @@ module _ (files : List NamedSource) (children : List Children) (beside : length 
       let moved : IsSizeAt (method_names seen y) (numbered (items f.tree)) r.fault.place a = sizes_along (method_names seen x) (method_names seen y) (numbered (items f.tree)) (numbered (items f.tree)) r.fault.place (Some a)
       (λ k m stands. same_method_names f.tree seen x y k m kinds labels stands) refl at in
       e ∙ ap (λ (z : MethodSize). Some (size_case.Method z)) (one_size_at (method_names seen y) (numbered (items f.tree)) r.fault.place a b moved size_here) ∙ sym i
-  one_size_of r s t (of_method f seen x a told is named dat at e) (of_image ys also each i) = absurd (two_phases r told also)
-  one_size_of r s t (of_method f seen x a told is named dat at e) (of_none neither none i) = absurd (contrary (sym told ∙ neither))
-  one_size_of r s t (of_image xs told each e) (of_method g other y b also there names made here i) = absurd (two_phases r also told)
+  one_size_of r s t (of_method f seen x a told is named dat at e) (of_image ys also each i) = absurd (two_phases r 2 3 FrameTooLarge ImageTooLarge (omega arith) told also)
+  one_size_of r s t (of_method f seen x a told is named dat at e) (of_none neither nor none i) = absurd (contrary (sym told ∙ nor))
+  one_size_of r s t (of_image xs told each e) (of_arguments g other also there i) = absurd (two_phases r 0 3 WrongArity ImageTooLarge (omega arith) also told)
+  one_size_of r s t (of_image xs told each e) (of_method g other y b also there names made here i) = absurd (two_phases r 2 3 FrameTooLarge ImageTooLarge (omega arith) also told)
   one_size_of r s t (of_image xs told each e) (of_image ys also others i) =
       e ∙ ap (λ (os : List ObjectPart). Some (size_case.Image (min (header_by os).dcurr (2 ^ 31)))) (one_objects files children xs ys beside each others) ∙ sym i
-  one_size_of r s t (of_image xs told each e) (of_none neither none i) = absurd (contrary (sym told ∙ none))
-  one_size_of r s t (of_none neither none e) (of_method g other y b also there names made here i) = absurd (contrary (sym also ∙ neither))
-  one_size_of r s t (of_none neither none e) (of_image ys also others i) = absurd (contrary (sym also ∙ none))
-  one_size_of r s t (of_none neither none e) (of_none also nor i) = e ∙ sym i
+  one_size_of r s t (of_image xs told each e) (of_none neither nor none i) = absurd (contrary (sym told ∙ none))
+  one_size_of r s t (of_none neither nor none e) (of_arguments g other also there i) = absurd (contrary (sym also ∙ neither))
+  one_size_of r s t (of_none neither nor none e) (of_method g other y b also there names made here i) = absurd (contrary (sym also ∙ nor))
+  one_size_of r s t (of_none neither nor none e) (of_image ys also others i) = absurd (contrary (sym also ∙ none))
+  one_size_of r s t (of_none neither nor none e) (of_none also others last i) = e ∙ sym i
 
 pub one_measured : (files : List NamedSource) → HaveOneView files → (n m : List ℕ) (f g : Fault) (s t : Option Size) → IsMeasured files n f s → IsMeasured files m g t → (n ≡ m) × (f ≡ g) × (s ≡ t)
 one_measured files view n m f g s t a b =

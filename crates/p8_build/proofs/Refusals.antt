@@ -19,7 +19,7 @@ use Rattle.p8_build.specs.Phases.{refusal_of, IsFirstByPhase, by_names, by_data,
 use Rattle.p8_build.proofs.Lists.{element, one_element}
 use Rattle.p8_build.proofs.Firsts.{refusal}
 use Rattle.p8_build.proofs.One.{alike, same_setting, same_labels, code_fault_along}
-use Rattle.p8_build.proofs.Sized.{code_sized}
+use Rattle.p8_build.proofs.Sized.{names_sized, code_sized}
 
 -- ---- what a refusal says
 
@@ -183,7 +183,7 @@ module _ (files : List NamedSource) (children : List Children) (i : ℕ) (file :
         file = h.file;
         holds = moved 0 e (of_names i file seen r.fault is first.holds);
         first = first_by r h.file (λ b l at refused. absurd (omega (arith, l, e))) (λ b same at refused. first.first b.fault (name_fault b (same ∙ e) at refused));
-        size = unsized 0 e (of_none refl refl none);
+        size = unsized 0 e (names_sized files children i file seen r.fault r.size is none);
       }
       by_phase (by_data kinds named e first none) = record {
         phase = omega (arith, e);
@@ -191,7 +191,7 @@ module _ (files : List NamedSource) (children : List Children) (i : ℕ) (file :
         holds = moved 1 e (of_data i file seen (record { kinds = kinds; dat = []; labels = []; codes = [] }) r.fault is named first.holds);
         first = first_by r h.file (λ b l at refused. named.clean b.fault (name_fault b (is_zero b.phase r.phase l e) at refused))
             (λ b same at refused. first.first b.fault (data_fault kinds named b (same ∙ e) at refused));
-        size = unsized 1 e (of_none refl refl none);
+        size = unsized 1 e (of_none refl refl refl none);
       }
       by_phase (by_code x named dat e first size) = record {
         phase = omega (arith, e);

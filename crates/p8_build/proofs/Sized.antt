@@ -21,8 +21,9 @@ use Rattle.p8_stmt.specs.Methods.{IsMethodFault, size_of, most_longs, most_held}
 use Rattle.p8_stmt.proofs.Sizes.{large_refused, refused_large}
 use Rattle.p8_build.specs.Files.{CompiledFile, method_names, IsData, IsCodeFault, of_method as method_fault, too_many}
 use Rattle.p8_build.specs.Builds.{IsFile, AreCompiled, objects_of}
-use Rattle.p8_build.specs.Phases.{image_size}
-use Rattle.p8_build.specs.Sizes.{IsSizeAt, IsSizeOf, of_method, of_image, of_none}
+use Rattle.p8_build.specs.Arguments.{arguments_at}
+use Rattle.p8_build.specs.Phases.{names_size, image_size}
+use Rattle.p8_build.specs.Sizes.{IsSizeAt, IsSizeOf, of_arguments, of_method, of_image, of_none}
 use Rattle.p8_build.specs.Measuring.{IsFirstSize, IfSizeAt, elsewhere, looked_for}
 use Rattle.p8_build.specs.declared.sizes.Size.{Size}
 use Rattle.p8_build.specs.declared.sizes.Size.TheVariants as size_case
@@ -151,10 +152,18 @@ fault_is f e = λ i. record { number = e i; place = f.place }
 clash : (n : ℕ) → n ≡ 27 → n ≡ 26 → ⊥
 clash n a b = omega (arith, a, b)
 
+-- the numbers of arguments that a fault of the names of a file tells
+pub names_sized : (files : List NamedSource) (children : List Children) (i : ℕ) (file : NamedSource) (seen : Children) (f : Fault) (size : Option Size) → IsFile files children i file seen → size ≡ names_size file.tree seen f → IsSizeOf files children (refusal 0 i f) size
+names_sized files children i file seen f size is told = by (f.number == 17) refl
+  where
+    by : (t : Bool) → (f.number == 17) ≡ t → IsSizeOf files children (refusal 0 i f) size
+    by true t = of_arguments file seen t is (told ∙ ap (λ (b : Bool). if b then arguments_at file.tree seen f.place else None) t)
+    by false t = of_none t refl refl (told ∙ ap (λ (b : Bool). if b then arguments_at file.tree seen f.place else None) t)
+
 -- the size that a fault of the code of a file tells
 pub code_sized : (files : List NamedSource) (children : List Children) (i : ℕ) (file : NamedSource) (seen : Children) (x : CompiledFile) (f : Fault) (size : Option Size) → IsFile files children i file seen → IsNamed file.tree seen (i == 0) x.kinds → IsData file.tree seen x
     → IsCodeFault file.tree seen x f → IfSizeAt (method_names seen x) (numbered (items file.tree)) f size → IsSizeOf files children (refusal 2 i f) size
-code_sized files children i file seen x f size is named dat faulty (elsewhere other none) = of_none (differs f.number 26 other) refl none
+code_sized files children i file seen x f size is named dat faulty (elsewhere other none) = of_none refl (differs f.number 26 other) refl none
 code_sized files children i file seen x f size is named dat faulty (looked_for (Some method) e at is_size) = of_method file seen x method (agrees f.number 26 e) is named dat at is_size
 code_sized files children i file seen x f size is named dat (method_fault k m stands b) (looked_for None e none is_size) = absurd (none k m stands (subst (IsMethodFault (method_names seen x k m) m) (fault_is f e) b))
 code_sized files children i file seen x f size is named dat (too_many k m stands b same) (looked_for None e none is_size) = absurd (clash 27 refl (ap (λ (g : Fault). g.number) same ∙ e))
@@ -169,4 +178,4 @@ image_sized files children xs objects f size each are is = by (f.number == 28) r
         of_image xs t each
         (is ∙ ap (λ (b : Bool). if b then Some (size_case.Image (min (header_by objects).dcurr (2 ^ 31))) else None) t
         ∙ ap (λ (os : List ObjectPart). Some (size_case.Image (min (header_by os).dcurr (2 ^ 31)))) are)
-    by false t = of_none refl t (is ∙ ap (λ (b : Bool). if b then Some (size_case.Image (min (header_by objects).dcurr (2 ^ 31))) else None) t)
+    by false t = of_none refl refl t (is ∙ ap (λ (b : Bool). if b then Some (size_case.Image (min (header_by objects).dcurr (2 ^ 31))) else None) t)

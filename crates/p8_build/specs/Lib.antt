@@ -6,6 +6,7 @@ pub mod Views
 pub mod Parts
 pub mod Files
 pub mod Builds
+pub mod Arguments
 pub mod Told
 pub mod Sizes
 pub mod Accepted
@@ -15,3 +16,4 @@ pub mod Numbers
 pub mod Coding
 pub mod Phases
 pub mod Measuring
+pub mod Searching

@@ -7,7 +7,7 @@ use Rattle.p8_words.specs.declared.failure.Fail.{Fail}
 use Rattle.p8_words.specs.declared.failure.Fail.TheVariants as fail_case
 use Rattle.p8_tree.specs.declared.faults.Fault.{Fault}
 use Rattle.p8_tree.specs.Faults.{IsFirstFault, IfRefused, PhaseFault, RefusalBefore, IsFirstRefusal}
-use Rattle.p8_tree.specs.declared.refusal.Refusal.TheVariants.{ImageTooLarge}
+use Rattle.p8_tree.specs.declared.refusal.Refusal.TheVariants.{WrongArity, ImageTooLarge}
 use Rattle.p8_tree.specs.Refusals.{refusal_number}
 use Rattle.p8_kinds.specs.declared.children.Children.{Children}
 use Rattle.p8_kinds.specs.declared.kinds.Kinds.{Kinds}
@@ -34,6 +34,7 @@ use Rattle.p8_build.specs.declared.sizes.Size.TheVariants as size_case
 use Rattle.p8_build.specs.Parts.{data_start, strings_in_method, text_in, method_parts, variable_in, instances_of}
 use Rattle.p8_build.specs.Files.{CompiledFile, IsData, IsCodeFault, IsCompiled, method_names}
 use Rattle.p8_build.specs.Builds.{IsFile, IsRefusal, IsImageFault, constant_named}
+use Rattle.p8_build.specs.Arguments.{arguments_at}
 use Rattle.p8_build.specs.Sizes.{IsSizeOf}
 use Rattle.p8_build.specs.Accepted.{compiled_file, methods_of, HasTables}
 use Rattle.p8_build.specs.Measuring.{IfSizeAt}
@@ -53,9 +54,13 @@ pub record AreAccepted (files : List NamedSource) (children : List Children) (fs
   pub count : length fs ≡ length files
   pub each : (i : ℕ) (f : AcceptedFile) → slice_get fs i ≡ Some f → IsAcceptedAt files children i f
 
+-- the numbers of arguments that a fault of the names of a file tells
+abbrev pub names_size : Source → Children → Fault → Option Size
+names_size source children f = if f.number == refusal_number WrongArity then arguments_at source children f.place else None
+
 -- the first refusal of a file, phase by phase, and its size
 pub data IsFirstByPhase (source : Source) (children : Children) (top : Bool) (r : PhaseRefusal) : Type 0 where
-  by_names : r.phase ≡ 0 → IsFirstFault (IsNameFault source children top) r.fault → r.size ≡ None → IsFirstByPhase source children top r
+  by_names : r.phase ≡ 0 → IsFirstFault (IsNameFault source children top) r.fault → r.size ≡ names_size source children r.fault → IsFirstByPhase source children top r
   by_data : (kinds : Kinds) → IsNamed source children top kinds → r.phase ≡ 1
       → IsFirstFault (IsDatFault (file_setting kinds children) (data_start (file_setting kinds children) source) source) r.fault → r.size ≡ None → IsFirstByPhase source children top r
   by_code : (x : CompiledFile) → IsNamed source children top x.kinds → IsData source children x → r.phase ≡ 2 → IsFirstFault (IsCodeFault source children x) r.fault

@@ -1,8 +1,10 @@
 // What the files of a project come to, or their first refusal before the image is made.
 ghost use Rattle.std.specs.Prelude.{◌≡◌, ◌≤◌, ◌<◌, ◌+◌, ◌==◌, nat_lt, if◌then◌else◌, length, map, IfOk, IfErr};
+ghost use Rattle.p8_tree.specs.Faults.{IfRefused, IsFirstFault};
 ghost use Rattle.p8_tree.specs.Proper.{IsProperFile};
 ghost use Rattle.p8_tree.specs.Views.{source_of, named_source_of};
 ghost use Rattle.p8_tree.specs.Projects.{most_files};
+ghost use Rattle.p8_names.specs.Faults.{IsNameFault};
 ghost use Rattle.p8_build.specs.Parts.{AreProper};
 ghost use Rattle.p8_build.specs.Faults.{in_phase};
 ghost use Rattle.p8_build.specs.Phases.{IsAcceptedFile, IsAcceptedAt, AreAccepted, IsFirstOfFile, IfPhaseRefused, IsFirstIn, IsFirstBelow};
@@ -10,6 +12,7 @@ ghost use Rattle.p8_build.specs.Phases.{IsAcceptedFile, IsAcceptedAt, AreAccepte
 use crate::assembling::{behind_table, instances};
 use crate::coding::codes_of;
 use crate::fault::PhaseRefusal;
+use crate::sizes::names_size;
 use p8_constants::{Item, items_of};
 use p8_dat::{Dat, assemble};
 use p8_gen::{Labels, Tables};
@@ -54,6 +57,31 @@ fn refused(phase: u8, file: usize, fail: Fail<Fault>) -> Fail<PhaseRefusal>
     }
 }
 
+/// A refusal of the names of the file of this number, with the numbers of arguments of a call.
+fn names_refused(
+    alloc: Global,
+    index: usize,
+    file: &SourceFile,
+    children: &Children,
+    fail: Fail<Fault>,
+) -> Fail<PhaseRefusal>
+    requires { IfRefused (IsFirstFault (IsNameFault (source_of file.now) children.now (index == 0))) fail }
+    ensures { IfPhaseRefused (IsFirstOfFile (source_of file.now) children.now index) result }
+{
+    match fail {
+        Fail::Refused(fault) => match names_size(alloc, file, children, fault) {
+            Ok(size) => Fail::Refused(PhaseRefusal {
+                phase: 0,
+                file: index,
+                fault,
+                size,
+            }),
+            Err(NoMemory) => Fail::NoMemory,
+        },
+        Fail::NoMemory => Fail::NoMemory,
+    }
+}
+
 /// What the file of this number comes to, by what it sees of its objects; or its first refusal, phase by phase.
 fn file_of<'a>(
     alloc: Global,
@@ -67,7 +95,7 @@ fn file_of<'a>(
 {
     let named = match resolve(alloc, file, children, index == 0) {
         Ok(named) => named,
-        Err(fail) => return Err(refused(0, index, fail)),
+        Err(fail) => return Err(names_refused(alloc, index, file, children, fail)),
     };
     let items = items_of(alloc, file)?;
     let methods = numbered(alloc, &items)?;

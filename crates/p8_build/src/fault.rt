@@ -18,7 +18,8 @@ pub enum BuildFault {
         file: Text,
         /// Why, by a refusal of the numbers 12 to 18 or 20 to 29, and where in the file.
         fault: Fault,
-        /// How large what is too large is: the method of a 26, the image of a 28, and nothing of any other refusal.
+        /// How large what is too large is, the method of a 26 or the image of a 28; how many arguments the call of a 17 has; and nothing
+        /// of any other refusal.
         size: Option<Size>,
     },
     /// There was no memory.
@@ -42,7 +43,7 @@ pub(crate) struct PhaseRefusal {
     pub(crate) file: usize,
     /// What is wrong with the file.
     pub(crate) fault: Fault,
-    /// How large what is too large is, as [`BuildFault`] tells it.
+    /// How large what it tells is, as [`BuildFault`] has it.
     pub(crate) size: Option<Size>,
 }
 

@@ -4,8 +4,11 @@
 #![tactic(auto)]
 
 mod accepting;
+mod arguments;
 mod assembling;
 mod building;
+mod callers;
+mod calls;
 mod coding;
 mod expressions;
 mod fault;
@@ -21,7 +24,7 @@ pub use accepting::AcceptedFile;
 pub use building::{Accepted, Built, accept, build, build_parts};
 pub use fault::BuildFault;
 pub use finishing::finish;
-pub use laws::one_build;
+pub use laws::{miscounted_calls_are_told, one_build};
 pub use objects::object_of_codes;
 pub use sizes::Size;
 pub use statements::strings_of;

@@ -1,18 +1,19 @@
-// How large what is refused as too large is.
+// How large what is refused is: what is too large, and how many arguments a call has.
 ghost use Rattle.std.specs.Prelude.{◌≡◌, ◌&&◌, ◌||◌, nat_lt, map, IfOk};
-ghost use Rattle.p8_tree.specs.Views.{method_of};
+ghost use Rattle.p8_tree.specs.Views.{method_of, source_of};
 ghost use Rattle.p8_tree.specs.Faults.{is_same_place};
 ghost use Rattle.p8_stmt.specs.Methods.{most_longs, most_held};
 ghost use Rattle.p8_build.specs.Files.{names_with};
 ghost use Rattle.p8_build.specs.Measuring.{IsFirstSize, of_method_size, IfSizeAt};
-ghost use Rattle.p8_build.specs.Phases.{image_size};
+ghost use Rattle.p8_build.specs.Phases.{image_size, names_size};
 
+use crate::callers::arguments_at;
 use crate::coding::number_behind;
 use p8_gen::Tables;
 use p8_image::{ObjectPart, frame_end};
-use p8_kinds::Kinds;
+use p8_kinds::{Children, Kinds};
 use p8_stmt::{MethodSize, method_size};
-use p8_tree::{Fault, Method, Place, Refusal};
+use p8_tree::{Fault, Method, Place, Refusal, SourceFile};
 use p8_words::NoMemory;
 use std::alloc::Global;
 
@@ -23,6 +24,23 @@ pub enum Size {
     Method(MethodSize),
     /// The image of a 28: where its first frame would end, in bytes. 2,147,483,648 stands for as many or more.
     Image(u32),
+    /// The call of a 17: how many arguments are expected, and how many are given, which is another number.
+    Arguments { wanted: usize, given: usize },
+}
+
+/// The numbers of arguments that a fault of the names of a file tells, where that is the fault of a call.
+pub(crate) fn names_size(
+    alloc: Global,
+    file: &SourceFile,
+    children: &Children,
+    fault: Fault,
+) -> Result<Option<Size>, NoMemory>
+    ensures { IfOk result (λ size. size ≡ names_size (source_of file.now) children.now fault) }
+{
+    if fault.number != Refusal::WrongArity.number() {
+        return Ok(None);
+    }
+    arguments_at(alloc, file, children, fault.place)
 }
 
 /// The size of the image of these objects, where a fault is that of one that is too large.

@@ -32,7 +32,7 @@ returns-in-Err-assemble-clause-refused c =
     let many : c.len.result ≡ length c.in_ok-methods.methods.items = search rules in
     let start = start_is source (setting_in consts) (file_setting n.kinds seen) c.in_ok-start.start c.len.result c.in_ok-instances.instances (trees c.in_ok-methods.methods.items) c.in_ok-start.ensures
     (many ∙ sym (length-map c.in_ok-methods.methods.items (λ m. method_of m.now))) methods count c.in_ok-consts.ensures in
-    subst (IfPhaseRefused (IsFirstOfFile source seen c.args.index)) (sym c.refused-in-Err-assemble.ensures)
+    subst (IfPhaseRefused (IsFirstOfFile source seen c.args.index)) (sym c.refused.ensures)
     (data_refused source seen n (ap source_of c.in-Ok.ensures.file) c.in-Ok.ensures.children c.in_ok-start.start start c.args.index c.in-Err-assemble.fail c.in-Ok.ensures.named c.in-Err-assemble.ensures.refused)
 
 pub codes_of-requires : goal.codes_of-requires
