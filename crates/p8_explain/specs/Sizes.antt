@@ -1,4 +1,5 @@
--- How large what is refused as too large is, and by how much that is too large, in words (this project's profile).
+-- How large what is refused as too large is, and by how much that is too large, and how many arguments a call has that is refused for their number, in words (this
+-- project's profile).
 use Rattle.std.specs.Prelude.{ℕ, ◌-◌, ◌==◌, nat_lt, Bool, List, [], ◌++◌, codes, Option, Some, None, if◌then◌else◌}
 use Rattle.std.specs.Fmt.{decimal}
 use Rattle.p8_stmt.specs.declared.frames.MethodSize.{MethodSize}
@@ -33,7 +34,16 @@ of_method size =
 abbrev pub of_image : (bytes : ℕ) → List ℕ
 of_image bytes = excess (codes "The image with its variables and the first frame has ") bytes 2147483648 (codes " bytes") 32768
 
+-- a number of things, by the words for one and for any other number
+unfoldable pub things : (one more : List ℕ) → ℕ → List ℕ
+things one more n = decimal n ++ (if n == 1 then one else more)
+
+-- a call
+abbrev pub of_arguments : (wanted given : ℕ) → List ℕ
+of_arguments wanted given = things (codes " argument is given, and ") (codes " arguments are given, and ") given ++ things (codes " is expected.\n") (codes " are expected.\n") wanted
+
 abbrev pub of_size : Option Size → List ℕ
 of_size None = []
 of_size (Some (size_case.Method size)) = of_method size
 of_size (Some (size_case.Image bytes)) = of_image bytes
+of_size (Some (size_case.Arguments wanted given)) = of_arguments wanted given

@@ -1,8 +1,9 @@
 -- What stands at a refused place of a text (this project's profile). Places are those of refusals.
-use Rattle.std.specs.Prelude.{ℕ, Bool, true, false, ◌==◌, ◌&&◌, not, List, [], ◌∷◌, ◌++◌, slice_index, codes, Option, Some, None, if◌then◌else◌}
+use Rattle.std.specs.Prelude.{ℕ, Bool, true, false, ◌==◌, ◌&&◌, not, List, [], ◌∷◌, ◌++◌, drop, slice_index, codes, Option, Some, None, if◌then◌else◌}
 use Rattle.std.specs.Fmt.{decimal}
 use Rattle.p8_tree.specs.declared.places.Place.{Place}
 use Rattle.p8_tree.specs.Faults.{is_same_place}
+use Rattle.p8_lexer.specs.Characters.{is_marked}
 use Rattle.p8_lexer.specs.Places.{start, behind}
 use Rattle.p8_lexer.specs.Spelling.{text_in}
 use Rattle.p8_lexer.specs.Words.{capital}
@@ -19,9 +20,9 @@ abbrev pub character_from : (sought : Place) → (before : ℕ) → Place → Li
 character_from sought before p [] = None
 character_from sought before p (c ∷ cs) = if stands_at sought before p c then Some c else character_from sought c (behind before p c) cs
 
--- whether a file begins with the mark of UTF-8, EF BB BF
-abbrev pub has_mark : (bytes : List ℕ) → Bool
-has_mark bytes = (slice_index bytes 0 == 239) && ((slice_index bytes 1 == 187) && (slice_index bytes 2 == 191))
+-- whether a file begins with the mark of UTF-8, EF BB BF, and a second one stands right behind it
+abbrev pub is_marked_twice : (bytes : List ℕ) → Bool
+is_marked_twice bytes = is_marked bytes && is_marked (drop 3 bytes)
 
 abbrev pub between : (before : List ℕ) → (number : ℕ) → (after : List ℕ) → List ℕ
 between before number after = before ++ decimal number ++ after
@@ -38,7 +39,7 @@ of_character (Some c) =
 
 abbrev pub of_byte : (bytes : List ℕ) → Place → List ℕ
 of_byte bytes place =
-    if has_mark bytes && is_same_place place start then codes "The file begins with the mark of UTF-8, the bytes EF BB BF: store it without that mark.\n" else
+    if is_marked_twice bytes && is_same_place place start then codes "The file begins with two marks of UTF-8, the bytes EF BB BF twice: store it with one mark, or with none.\n" else
     of_character (character_from place 0 start (text_in bytes))
 
 -- ---- a name

@@ -1,6 +1,6 @@
-// By how much what is refused as too large is too large.
+// By how much what is refused as too large is too large, and how many arguments a call has.
 ghost use Rattle.std.specs.Prelude.{◌≡◌, ◌++◌, ◌<◌, OnOk};
-ghost use Rattle.p8_explain.specs.Sizes.{least_words, number_text, counted, beyond, excess, of_method, of_image, of_size};
+ghost use Rattle.p8_explain.specs.Sizes.{least_words, number_text, counted, beyond, excess, of_method, of_image, things, of_arguments, of_size};
 
 use crate::texts::push_decimal;
 use p8_build::Size;
@@ -108,7 +108,30 @@ fn push_of_image(out: &mut Vec<u8>, bytes: u32) -> Result<(), NoMemory>
     )
 }
 
-/// Appends by how much what is refused is too large.
+// Appends a number of things, by the words for one and for any other number.
+#[tactic(auto, unfolding(crate::specs::Sizes::things))]
+fn push_things(out: &mut Vec<u8>, one: &[u8], more: &[u8], number: usize) -> Result<(), NoMemory>
+    ensures { OnOk result (out.new.items ≡ out.old.items ++ things one.now more.now number) }
+{
+    push_decimal(out, number as u64)?;
+    push_text(out, if number == 1 { one } else { more })?;
+    Ok(())
+}
+
+fn push_of_arguments(out: &mut Vec<u8>, wanted: usize, given: usize) -> Result<(), NoMemory>
+    ensures { OnOk result (out.new.items ≡ out.old.items ++ of_arguments wanted given) }
+{
+    push_things(
+        out,
+        b" argument is given, and ",
+        b" arguments are given, and ",
+        given,
+    )?;
+    push_things(out, b" is expected.\n", b" are expected.\n", wanted)?;
+    Ok(())
+}
+
+/// Appends by how much what is refused is too large, or how many arguments a call has.
 pub(crate) fn push_size(out: &mut Vec<u8>, size: Option<Size>) -> Result<(), NoMemory>
     ensures { OnOk result (out.new.items ≡ out.old.items ++ of_size size) }
 {
@@ -116,5 +139,6 @@ pub(crate) fn push_size(out: &mut Vec<u8>, size: Option<Size>) -> Result<(), NoM
         None => Ok(()),
         Some(Size::Method(size)) => push_of_method(out, size),
         Some(Size::Image(bytes)) => push_of_image(out, bytes),
+        Some(Size::Arguments { wanted, given }) => push_of_arguments(out, wanted, given),
     }
 }

@@ -1,12 +1,14 @@
 // What stands at a refused place of a text.
 ghost use Rattle.std.specs.Prelude.{◌≡◌, ◌++◌, ◌+◌, ◌^◌, ◌<◌, ◌≤◌, length, slice_index, OnOk};
+ghost use Rattle.p8_lexer.specs.Characters.{is_marked};
 ghost use Rattle.p8_lexer.specs.Places.{start};
 ghost use Rattle.p8_lexer.specs.Words.{capital};
 ghost use Rattle.p8_tree.specs.Faults.{is_same_place};
-ghost use Rattle.p8_explain.specs.Standing.{stands_at, character_from, has_mark, between, of_number, of_character, of_byte};
+ghost use Rattle.p8_explain.specs.Standing.{stands_at, character_from, is_marked_twice, between, of_number, of_character, of_byte};
 ghost use Rattle.p8_explain.specs.Standing.{begins_with, first_from, place_between, of_place, of_place_or_none, of_first, of_name};
 
 use crate::causes::{first_character, is_of_word, push_quoted};
+use crate::lines::rest_of;
 use crate::texts::push_decimal;
 use p8_instr::push_text;
 use p8_lexer::{Characters, START, behind};
@@ -44,11 +46,18 @@ fn character_at(text: &Characters, sought: Place) -> Option<u8>
     None
 }
 
-// Whether a file begins with the mark of UTF-8.
-fn has_mark(bytes: &[u8]) -> bool
-    ensures { result ≡ has_mark bytes.now }
+// Whether bytes begin with the mark of UTF-8.
+fn is_marked(bytes: &[u8]) -> bool
+    ensures { result ≡ is_marked bytes.now }
 {
     bytes.len() >= 3 && bytes[0] == 0xef && bytes[1] == 0xbb && bytes[2] == 0xbf
+}
+
+// Whether a file begins with the mark of UTF-8, and a second one stands right behind it.
+fn is_marked_twice(bytes: &[u8]) -> bool
+    ensures { result ≡ is_marked_twice bytes.now }
+{
+    is_marked(bytes) && is_marked(rest_of(bytes, 3))
 }
 
 // Appends a number between two texts.
@@ -93,10 +102,10 @@ fn push_of_character(out: &mut Vec<u8>, character: Option<u8>) -> Result<(), NoM
 pub(crate) fn push_of_byte(out: &mut Vec<u8>, bytes: &[u8], place: Place) -> Result<(), NoMemory>
     ensures { OnOk result (out.new.items ≡ out.old.items ++ of_byte bytes.now place) }
 {
-    if has_mark(bytes) && is_same_place(place, START) {
+    if is_marked_twice(bytes) && is_same_place(place, START) {
         push_text(
             out,
-            b"The file begins with the mark of UTF-8, the bytes EF BB BF: store it without that mark.\n",
+            b"The file begins with two marks of UTF-8, the bytes EF BB BF twice: store it with one mark, or with none.\n",
         )
     } else {
         let text = Characters::of_front(bytes);
