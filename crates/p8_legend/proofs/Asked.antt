@@ -86,7 +86,7 @@ added-fetched memory base places w v before has are adds op line there =
 -- ---- what is asked from an address
 
 -- one bytecode more
-one-more : (entered : Entered) (turns : List Turn) (done : ℕ) (s : State) (begin : ℕ) (left : List Turn) → lived done entered turns ≡ Goes s begin left
+pub one-more : (entered : Entered) (turns : List Turn) (done : ℕ) (s : State) (begin : ℕ) (left : List Turn) → lived done entered turns ≡ Goes s begin left
     → lived (done + 1) entered turns ≡ played entered.cog (begin + clocks entered.memory s) (bytecode entered.memory entered.cog s) left
 unfolding after
 one-more entered turns done s begin left goes =

@@ -24,3 +24,5 @@ mod LabelsRise
 mod OfProject
 mod Kinded
 mod KindedProject
+mod FrameAccesses
+mod LocalNames

@@ -21,6 +21,7 @@ use Rattle.p8_map.specs.declared.names.FileNames.{FileNames}
 use Rattle.p8_map.specs.Names.{file_names}
 use Rattle.p8_map.specs.Projects.{names_of}
 use Rattle.p8_legend.specs.ProjectLegends.{Named, names_in, with_rows}
+use Rattle.p8_legend.specs.Frames.{with_locals}
 use Rattle.p8_legend.specs.Projects.{IsLegendOf, AreSame}
 
 -- the names of a file, by what it is compiled to
@@ -86,12 +87,15 @@ both-ways files children xs ys beside a b = record {
       one-code f c (i == 0) x y (a.each i f c x is at_x) (b.each i f c y is at_y);
 }
 
--- the names and the places of a legend, by what the files are compiled to
+-- the names, the places and the locals of a legend, by what the files are compiled to
 abbrev named_by : (sources : List (List ℕ)) → List NamedSource → Clock → List CompiledFile → List Children → Named
 named_by sources files clock xs children = names_in (word_at (image_of clock (objects_of files children xs)) 8) (names_of sources files children xs) (objects_of files children xs)
 
 abbrev placed_by : (sources : List (List ℕ)) → List NamedSource → List CompiledFile → List Children → Named
 placed_by sources files xs children = with_rows ([], []) (names_of sources files children xs) (rows_from 0 16 (objects_of files children xs) (codes_of xs))
+
+abbrev local_by : (sources : List (List ℕ)) → List NamedSource → Clock → List CompiledFile → List Children → Named
+local_by sources files clock xs children = with_locals ([], []) (image_of clock (objects_of files children xs)) (names_of sources files children xs) (rows_from 0 16 (objects_of files children xs) (codes_of xs))
 
 -- what the files see is one thing, and so is the legend
 pub legend-one : (sources : List (List ℕ)) (files : List NamedSource) → ((a b : List Children) → AreChildren files a → AreChildren files b → a ≡ b) → (a b : Legend) → IsLegendOf sources files a → IsLegendOf sources files b → AreSame a b
@@ -112,6 +116,10 @@ legend-one sources files view a b p q =
           ∙ (λ i. with_rows ([], []) (names i) (rows_from 0 16 (objects i) (codes i)))
           ∙ ap (placed_by sources files q.compiled) (sym same)
           ∙ sym q.places;
+      locals = p.locals
+          ∙ (λ i. with_locals ([], []) (image_of (clock i) (objects i)) (names i) (rows_from 0 16 (objects i) (codes i)))
+          ∙ ap (local_by sources files q.clock q.compiled) (sym same)
+          ∙ sym q.locals;
     }
 
 -- a project with a legend is built

@@ -31,7 +31,7 @@ use Rattle.p8_legend.specs.ProjectLegends.{Named, method_name, row_text, with_ro
 use Rattle.p8_legend.specs.Legends.{found_text, place_text}
 use Rattle.p8_legend.specs.Rows.{AreApart, IsRowAt}
 
-abbrev range_of : Row → Range
+abbrev pub range_of : Row → Range
 range_of row = record { address = row.address; end = row.end }
 
 abbrev text_for : List FileNames → Row → List ℕ
@@ -39,17 +39,17 @@ text_for files row = row_text (slice_get files row.file) row
 
 -- ---- no row is left out
 
-fits : (ranges : List Range) (texts : List (List ℕ)) (r : Range) (text : List ℕ) → last_end 0 ranges ≤ r.address → r.address < r.end → with_range ranges texts r text ≡ (ranges ++ r ∷ [], texts ++ text ∷ [])
+pub fits : (ranges : List Range) (texts : List (List ℕ)) (r : Range) (text : List ℕ) → last_end 0 ranges ≤ r.address → r.address < r.end → with_range ranges texts r text ≡ (ranges ++ r ∷ [], texts ++ text ∷ [])
 fits ranges texts r text behind some = grind (arith, nat_tests)
 
-end-is : (lowest : ℕ) (ranges : List Range) (r : Range) → last_end lowest (ranges ++ r ∷ []) ≡ r.end
+pub end-is : (lowest : ℕ) (ranges : List Range) (r : Range) → last_end lowest (ranges ++ r ∷ []) ≡ r.end
 end-is lowest [] r = refl
 end-is lowest (x ∷ ranges) r = end-is x.end ranges r
 
-rest-apart : (row : Row) (rows : List Row) → AreApart (row ∷ rows) → AreApart rows
+pub rest-apart : (row : Row) (rows : List Row) → AreApart (row ∷ rows) → AreApart rows
 rest-apart row rows apart = record { some = λ i. apart.some (suc i); behind = λ i j a b lt. apart.behind (suc i) (suc j) a b (omega (arith, lt)) }
 
-abbrev Behind : (end : ℕ) → List Row → Type 0
+abbrev pub Behind : (end : ℕ) → List Row → Type 0
 Behind end rows = (j : ℕ) (b : Row) → slice_get rows j ≡ Some b → end ≤ b.address
 
 all-rows : (files : List FileNames) (ranges : List Range) (texts : List (List ℕ)) (rows : List Row) → AreApart rows → Behind (last_end 0 ranges) rows
@@ -71,7 +71,7 @@ held address r x y from to = grind (arith, nat_tests)
 past : (address : ℕ) (r : Range) {X : Type 0} (x y : X) → r.end ≤ address → (if holds address r then x else y) ≡ y
 past address r x y behind = grind (arith, nat_tests)
 
-found-row : (rows : List Row) (address : ℕ) → AreApart rows → (n : ℕ) (row : Row) → slice_get rows n ≡ Some row → row.address ≤ address → address < row.end
+pub found-row : (rows : List Row) (address : ℕ) → AreApart rows → (n : ℕ) (row : Row) → slice_get rows n ≡ Some row → row.address ≤ address → address < row.end
     → (f : Found) × (found_at (map range_of rows) address ≡ Some f) × (f.number ≡ n)
 found-row [] address apart n row at from to = absurd (none-some row at)
 found-row (x ∷ rows) address apart zero row at from to =

@@ -23,6 +23,15 @@ abbrev pub found_text : Ranges → Option Found → List ℕ
 found_text places None = []
 found_text places (Some found) = codes " " ++ text_of places.texts found.number
 
+-- what the bytecode at an address names in the frame of its method, where it is known and names anything there
+abbrev pub found_local : Ranges → Option Found → List ℕ
+found_local locals None = []
+found_local locals (Some found) = text_of locals.texts found.number
+
+abbrev pub local_at : Ranges → (counter : Option ℕ) → List ℕ
+local_at locals None = []
+local_at locals (Some address) = found_local locals (found_at locals.ranges address)
+
 abbrev pub place_text : Ranges → (counter : Option ℕ) → List ℕ
 place_text places None = []
 place_text places (Some address) = found_text places (found_at places.ranges address)

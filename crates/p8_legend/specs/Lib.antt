@@ -4,6 +4,8 @@ pub mod Legends
 pub mod Rows
 pub mod ProjectLegends
 pub mod Projects
+-- What bytecodes name in the frames of their methods.
+pub mod Frames
 -- How the code goes: internal.
 pub mod Finding
 pub mod Steps
@@ -21,6 +23,8 @@ pub mod Covering
 pub mod Naming
 -- What a legend tells of an address.
 pub mod Telling
+-- Which local a turn reads or writes.
+pub mod Framing
 -- What has a name in the hub, and where.
 pub mod Stands
 -- The lines of a map.

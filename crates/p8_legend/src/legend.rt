@@ -1,6 +1,6 @@
 // The legend of a program.
 ghost use Rattle.std.specs.Prelude.{◌≡◌, ◌++◌, [], OnOk};
-ghost use Rattle.p8_legend.specs.Legends.{address_text, offset_text, place_text};
+ghost use Rattle.p8_legend.specs.Legends.{address_text, local_at, offset_text, place_text};
 ghost use Rattle.p8_legend.specs.Ranges.{range_named};
 
 use crate::ranges::Ranges;
@@ -18,6 +18,9 @@ pub struct Legend {
     pub names: Ranges,
     /// For each bytecode the place of its statement: `FILE:LINE METHOD`.
     pub places: Ranges,
+    /// For each bytecode what it names in the frame of its method, `METHOD.NAME`: its result, a parameter or a local. It is empty where
+    /// the bytecode names nothing there by itself.
+    pub locals: Ranges,
 }
 
 impl Legend {
@@ -25,11 +28,13 @@ impl Legend {
     pub fn empty(alloc: Global) -> Legend
         ensures names { result.names.ranges ≡ [] }
         ensures places { result.places.ranges ≡ [] }
-        ensures texts { (result.names.texts ≡ []) × (result.places.texts ≡ []) }
+        ensures locals { result.locals.ranges ≡ [] }
+        ensures texts { (result.names.texts ≡ []) × (result.places.texts ≡ []) × (result.locals.texts ≡ []) }
     {
         Legend {
             names: Ranges::new(alloc),
             places: Ranges::new(alloc),
+            locals: Ranges::new(alloc),
         }
     }
 
@@ -42,7 +47,7 @@ impl Legend {
             None => push_text(out, &word_digits(u32::from(address))),
             Some(found) => {
                 push_text(out, self.names.text(found.number))?;
-                push_offset(out, found.offset)
+                push_offset(out, u64::from(found.offset))
             }
         }
     }
@@ -53,6 +58,20 @@ impl Legend {
         ensures { result ≡ range_named self.now.names.ranges self.now.names.texts name.now }
     {
         self.names.range_of(name)
+    }
+
+    /// What the bytecode at an address names in the frame of its method, by itself and without an index: `METHOD.NAME`, with `+` and how many
+    /// bytes of it come before, where there are any. It is empty where the bytecode names nothing there, and where none is known.
+    pub fn local(&self, counter: Option<u16>) -> &[u8]
+        ensures { result.now ≡ local_at self.now.locals counter }
+    {
+        let Some(address) = counter else {
+            return &[];
+        };
+        match self.locals.find(address) {
+            None => &[],
+            Some(found) => self.locals.text(found.number),
+        }
     }
 
     /// Appends a space and the place of the bytecode that stands at an address; nothing where none is known. The only error is want of
@@ -73,8 +92,8 @@ impl Legend {
     }
 }
 
-/// Appends the bytes that come before an address in the range of a name.
-fn push_offset(out: &mut Vec<u8>, offset: u16) -> Result<(), NoMemory>
+/// Appends how many bytes of what a name names come before.
+pub(crate) fn push_offset(out: &mut Vec<u8>, offset: u64) -> Result<(), NoMemory>
     ensures { OnOk result (out.new.items ≡ out.old.items ++ offset_text offset) }
 {
     if offset == 0 {

@@ -8,6 +8,8 @@ mod instances;
 mod laws;
 mod legend;
 mod life_laws;
+mod local_laws;
+mod locals;
 mod name_laws;
 mod objects;
 mod parts;
@@ -28,6 +30,7 @@ pub use code_laws::{lines_are_of_their_statements, lines_begin_where_bytecodes_d
 pub use laws::one_legend;
 pub use legend::Legend;
 pub use life_laws::{accesses_are_asked_by_their_lines, bytecodes_stand_at_their_lines};
+pub use local_laws::locals_are_named_by_their_frames;
 pub use name_laws::{
     maps_tell_where_the_image_has_it, names_stand_by_their_kinds,
     names_stand_where_the_image_has_them,

@@ -17,9 +17,9 @@ use p8_tree::{Project, ProjectFile, Text};
 use p8_words::NoMemory;
 use std::alloc::Global;
 
-/// The legend of a project: the names of what stands in the image that [`build`](p8_build::build) makes of it, and the place of each
-/// bytecode, as [`legend_of_parts`] tells them, with each name as its file spells it where it is defined. `sources` are the bytes of the project's
-/// files, in their order.
+/// The legend of a project: the names of what stands in the image that [`build`](p8_build::build) makes of it, and of each bytecode its place and
+/// what it names in the frame of its method, as [`legend_of_parts`] tells them, with each name as its file spells it where it is defined.
+/// `sources` are the bytes of the project's files, in their order.
 ///
 /// The conditions, the errors and when each comes are those of [`build_parts`](p8_build::build_parts): a project has a legend exactly where
 /// it is built to an image. Beside the building it takes time in proportion to the project and to the names of its instances.
@@ -55,9 +55,11 @@ pub fn legend_of_accepted(
     let names = names_of_accepted(alloc, files, sources, accepted)?;
     let table = table_of_accepted(alloc, accepted)?;
     let built = &accepted.built;
+    let image = built.image.bytes();
     legend_of_parts(
         alloc,
-        variables_at(built.image.bytes()),
+        image,
+        variables_at(image),
         names.as_slice(),
         built.objects.as_slice(),
         &table,

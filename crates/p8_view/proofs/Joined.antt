@@ -1,5 +1,5 @@
 -- Texts that are made piece by piece, and the end of a view.
-use Rattle.std.proofs.Common.{◌≡◌, ◌∙◌, refl, sym, ap, ℕ, List, ◌++◌, codes, length, reverse, append_assoc}
+use Rattle.std.proofs.Common.{◌≡◌, ◌∙◌, refl, sym, ap, ℕ, List, [], ◌++◌, codes, length, reverse, append_assoc}
 use Rattle.std.specs.Fmt.{decimal}
 use Rattle.std.specs.List.{flat_map}
 use Rattle.std.proofs.lemmas.List.{length-reverse}
@@ -27,7 +27,7 @@ pub then_pair : (old a b c one two : List ℕ) → one ≡ old ++ a → two ≡ 
 then_pair old a b c one two first second = then_one old a (b ++ c) one two first second ∙ ap (λ (xs : List ℕ). old ++ xs) (sym (append_assoc a b c))
 
 -- an access that is no wait
-pub asks-else : (names : Ranges) (clock : ℕ) (access : Access) → ((test : Test) → access ≡ Wait test → ⊥) → asks_text names clock access ≡ codes ", does next at clock " ++ decimal clock ++ codes ": " ++ asked_text names access
+pub asks-else : (names : Ranges) (clock : ℕ) (access : Access) → ((test : Test) → access ≡ Wait test → ⊥) → asks_text names clock access ≡ codes ", does next at clock " ++ decimal clock ++ codes ": " ++ asked_text names [] access
 asks-else names clock (Wait test) other = absurd (other test refl)
 asks-else names clock access other = refl
 

@@ -43,7 +43,7 @@ awaited_text since (PinsDiffer state mask) = codes "the pins " ++ hex 8 mask ++ 
 -- the access that a cog asks from a clock on
 abbrev pub asks_text : Ranges → (clock : ℕ) → Access → List ℕ
 asks_text names clock (Wait test) = codes ", waits since clock " ++ decimal clock ++ codes " for " ++ awaited_text clock test
-asks_text names clock access = codes ", does next at clock " ++ decimal clock ++ codes ": " ++ asked_text names access
+asks_text names clock access = codes ", does next at clock " ++ decimal clock ++ codes ": " ++ asked_text names [] access
 
 -- what a cog has said of its next access, where turns come up to a limit of clocks
 abbrev pub next_text : Ranges → (clocks : ℕ) → Next → List ℕ

@@ -1,7 +1,7 @@
 // What a cog does in a turn, in words.
 ghost use Rattle.std.specs.Prelude.{◌≡◌, ◌++◌, codes, OnOk};
 ghost use Rattle.p8_report.specs.Text.{code_of, number_text};
-ghost use Rattle.p8_view.specs.Words.{access_text, asked_text, move_text, moved_text, start_text, wait_text};
+ghost use Rattle.p8_view.specs.Words.{access_text, asked_text, local_for, move_text, moved_text, start_text, variable_text, wait_text};
 ghost use Rattle.p8_legend.specs.Legends.{address_text};
 
 use crate::starts::{push_reason, push_start};
@@ -12,34 +12,62 @@ use p8_legend::Legend;
 use p8_report::{code_in, push_longs, push_numbered, value_in};
 use p8_words::NoMemory;
 
-/// Appends what is read or written: the word for that, the width and the address.
+/// What a bytecode at an address, by which a cog asks that was started with `own`, names in the frame of its method; nothing for Propeller
+/// Assembly.
+pub(crate) fn local_of<'a>(legend: &'a Legend, own: &Origin, counter: Option<u16>) -> &'a [u8]
+    ensures { result.now ≡ local_for legend.now own.now counter }
+{
+    match own {
+        Origin::Pasm { .. } => &[],
+        Origin::Spin { .. } => legend.local(counter),
+    }
+}
+
+/// Appends an address by its name in the frame of a method, and where that is empty by the names of the hub.
+fn push_variable(
+    out: &mut Vec<u8>,
+    legend: &Legend,
+    local: &[u8],
+    address: u16,
+) -> Result<(), NoMemory>
+    ensures { OnOk result (out.new.items ≡ out.old.items ++ variable_text legend.now.names local.now address) }
+{
+    match local {
+        [] => legend.push_address(out, address),
+        [_, ..] => push_text(out, local),
+    }
+}
+
+/// Appends what is read or written: the word for that, the width and the address, which may have a name in the frame of a method.
 fn push_place(
     out: &mut Vec<u8>,
     legend: &Legend,
+    local: &[u8],
     word: &[u8],
     width: Width,
     address: u16,
 ) -> Result<(), NoMemory>
-    ensures { OnOk result (out.new.items ≡ out.old.items ++ moved_text legend.now.names word.now width address) }
+    ensures { OnOk result (out.new.items ≡ out.old.items ++ moved_text legend.now.names local.now word.now width address) }
 {
     push_text(out, word)?;
     push_text(out, width_name(width))?;
     push_text(out, b" ")?;
-    legend.push_address(out, address)
+    push_variable(out, legend, local, address)
 }
 
 /// Appends a read or a write with its value.
 fn push_move(
     out: &mut Vec<u8>,
     legend: &Legend,
+    local: &[u8],
     word: &[u8],
     width: Width,
     address: u16,
     value: u32,
 ) -> Result<(), NoMemory>
-    ensures { OnOk result (out.new.items ≡ out.old.items ++ move_text legend.now.names word.now width address value) }
+    ensures { OnOk result (out.new.items ≡ out.old.items ++ move_text legend.now.names local.now word.now width address value) }
 {
-    push_place(out, legend, word, width, address)?;
+    push_place(out, legend, local, word, width, address)?;
     push_text(out, b" = ")?;
     push_value(out, width, value)
 }
@@ -85,23 +113,24 @@ fn push_cog_init(
     push_start(out, legend, origin)
 }
 
-/// Appends an access without its answer.
+/// Appends an access without its answer. What it reads or writes may have a name in the frame of a method.
 pub(crate) fn push_asked(
     out: &mut Vec<u8>,
     legend: &Legend,
+    local: &[u8],
     access: &Access,
 ) -> Result<(), NoMemory>
-    ensures { OnOk result (out.new.items ≡ out.old.items ++ asked_text legend.now.names access.now) }
+    ensures { OnOk result (out.new.items ≡ out.old.items ++ asked_text legend.now.names local.now access.now) }
 {
     match *access {
         Access::Begin => push_text(out, b"begin"),
         Access::Load => push_text(out, b"load"),
-        Access::Read { width, address } => push_place(out, legend, b"read ", width, address),
+        Access::Read { width, address } => push_place(out, legend, local, b"read ", width, address),
         Access::Write {
             width,
             address,
             value,
-        } => push_move(out, legend, b"write ", width, address, value),
+        } => push_move(out, legend, local, b"write ", width, address, value),
         Access::CogId => push_text(out, b"cogid"),
         Access::CogInit { origin, .. } => {
             push_text(out, b"coginit ")?;
@@ -128,15 +157,17 @@ pub(crate) fn push_asked(
     }
 }
 
-/// Appends an access with its answer. The cog that makes it was started with `own`.
+/// Appends an access with its answer. The cog that makes it was started with `own`, and what it reads or writes may have a name in the frame of a
+/// method.
 pub(crate) fn push_access(
     out: &mut Vec<u8>,
     legend: &Legend,
     own: &Origin,
+    local: &[u8],
     access: &Access,
     answer: Answer,
 ) -> Result<(), NoMemory>
-    ensures { OnOk result (out.new.items ≡ out.old.items ++ access_text legend.now.names own.now access.now answer) }
+    ensures { OnOk result (out.new.items ≡ out.old.items ++ access_text legend.now.names own.now local.now access.now answer) }
 {
     match *access {
         Access::Begin => {
@@ -145,7 +176,15 @@ pub(crate) fn push_access(
         }
         Access::Load => push_load(out, legend, own),
         Access::Read { width, address } => {
-            push_move(out, legend, b"read ", width, address, value_in(answer))
+            push_move(
+                out,
+                legend,
+                local,
+                b"read ",
+                width,
+                address,
+                value_in(answer),
+            )
         }
         Access::CogId => push_numbered(out, b"cogid ", u64::from(value_in(answer))),
         Access::CogInit { origin, .. } => push_cog_init(out, legend, &origin, answer),
@@ -161,6 +200,6 @@ pub(crate) fn push_access(
         | Access::OutSet { .. }
         | Access::DirSet { .. }
         | Access::Wait { .. }
-        | Access::Halt { .. } => push_asked(out, legend, access),
+        | Access::Halt { .. } => push_asked(out, legend, local, access),
     }
 }

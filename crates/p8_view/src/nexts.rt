@@ -66,7 +66,7 @@ fn push_asks(
         _ => {
             push_numbered(out, b", does next at clock ", clock)?;
             push_text(out, b": ")?;
-            push_asked(out, legend, access)
+            push_asked(out, legend, &[], access)
         }
     }
 }

@@ -10,7 +10,7 @@ ghost use Rattle.p8_view.specs.Drives.{drives_of};
 ghost use Rattle.p8_view.specs.View.{counter_of, is_asked, is_loaded as is_read_of_load, is_of, is_shown, lines_of};
 ghost use Rattle.p8_view.specs.View.{loading, rate, shown_line, turn_line, what_text, when_text};
 
-use crate::accesses::push_access;
+use crate::accesses::{local_of, push_access};
 use crate::cogs::Cogs;
 use crate::drives::{Drives, are_same, push_pins};
 use crate::times::{push_time, rate_of};
@@ -98,7 +98,8 @@ impl<'a> Showing<'a> {
         push_cog(out, turn.key.cog)
     }
 
-    /// Appends what the cog of a turn does, which was started with `own`, with the pins that change and the place in the source.
+    /// Appends what the cog of a turn does, which was started with `own`, with the pins that change and the place in the source. What a bytecode names in
+    /// the frame of its method is told by that name.
     fn push_what(
         &self,
         out: &mut Vec<u8>,
@@ -110,7 +111,8 @@ impl<'a> Showing<'a> {
     ) -> Result<(), NoMemory>
         ensures { OnOk result (out.new.items ≡ out.old.items ++ what_text self.now.legend.now own.now turn.now before.now after.now counter) }
     {
-        push_access(out, self.legend, own, &turn.access, turn.answer)?;
+        let local = local_of(self.legend, own, counter);
+        push_access(out, self.legend, own, local, &turn.access, turn.answer)?;
         push_pins(out, before, after)?;
         self.legend.push_place(out, counter)?;
         push_text(out, b"\n")
@@ -197,7 +199,8 @@ pub(crate) fn lines(
 }
 
 /// The lines of the turns of a history that are shown, the oldest first: the clock, the time where the program's image tells its
-/// frequency, the cog, what it does, the pins that change, and the place in the source where one is known.
+/// frequency, the cog, what it does, the pins that change, and the place in the source where one is known. What a bytecode of Spin reads or
+/// writes in the frame of its method, and names by itself, is told by its name there.
 ///
 /// `counters` has for each turn, the oldest first, the hub address of the bytecode that asks it; none is known of a turn behind its end.
 /// The reads of a load have no line. The only error is want of memory.

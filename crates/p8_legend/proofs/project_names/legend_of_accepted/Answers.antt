@@ -1,20 +1,22 @@
-use Rattle.std.proofs.Common.{◌≡◌, ◌∙◌, ap, ℕ, List, [], map}
+use Rattle.std.proofs.Common.{◌≡◌, ◌∙◌, [], map}
 use Rattle.p8_tree.specs.Views.{named_source_of}
-use Rattle.p8_image.specs.Headers.{word_at}
 use Rattle.p8_legend.specs.ProjectLegends.{names_in, with_rows}
+use Rattle.p8_legend.specs.Frames.{with_locals}
 use Rattle.p8_legend.specs.Projects.{IsLegendOf}
-use Rattle.p8_legend.proofs.OfAccepted.{if-both, legend-told}
+use Rattle.p8_legend.proofs.OfAccepted.{if-all, legend-told}
 use Rattle.p8_legend.proofs.project_names.legend_of_accepted.Goals as goal
 
 pub returns : goal.returns
 returns c =
     let files = map named_source_of c.args.files.now in
+    let image = c.bytes-image.result.now in
     let at = c.variables_at.result in
     let shown = c.as_slice.result.now in
     let objects = c.as_slice-2.result.now in
     let rows = c.in_ok-table.table.rows in
-    if-both c.legend_of_parts.result
-    (λ legend. (legend.names.ranges, legend.names.texts) ≡ names_in at shown objects) (λ legend. (legend.places.ranges, legend.places.texts) ≡ with_rows ([], []) shown rows) (IsLegendOf c.args.sources.now files)
-    c.legend_of_parts.ensures.names c.legend_of_parts.ensures.places
-    (λ legend names places. legend-told c.args.sources.now files c.args.accepted.now c.requires.accepted shown (c.as_slice.ensures ∙ c.in_ok-names.ensures)
-    rows c.in_ok-table.ensures.rows at (c.variables_at.ensures ∙ ap (λ (bytes : List ℕ). word_at bytes 8) c.bytes.ensures.bytes) objects c.as_slice-2.ensures legend names places)
+    if-all c.legend_of_parts.result
+    (λ legend. (legend.names.ranges, legend.names.texts) ≡ names_in at shown objects) (λ legend. (legend.places.ranges, legend.places.texts) ≡ with_rows ([], []) shown rows)
+    (λ legend. (legend.locals.ranges, legend.locals.texts) ≡ with_locals ([], []) image shown rows) (IsLegendOf c.args.sources.now files)
+    c.legend_of_parts.ensures.names c.legend_of_parts.ensures.places c.legend_of_parts.ensures.locals
+    (λ legend names places locals. legend-told c.args.sources.now files c.args.accepted.now c.requires.accepted shown (c.as_slice.ensures ∙ c.in_ok-names.ensures)
+    rows c.in_ok-table.ensures.rows image c.bytes-image.ensures.bytes at c.variables_at.ensures objects c.as_slice-2.ensures legend names places locals)

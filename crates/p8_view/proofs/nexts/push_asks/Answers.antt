@@ -1,4 +1,4 @@
-use Rattle.std.proofs.Common.{◌∙◌, sym, ap, ◌++◌, codes}
+use Rattle.std.proofs.Common.{◌∙◌, sym, ap, [], ◌++◌, codes}
 use Rattle.std.specs.Fmt.{decimal}
 use Rattle.std.proofs.lemmas.Result.{on_ok_weaker}
 use Rattle.p8_access.specs.declared.kinds.Access.{Access}
@@ -17,6 +17,6 @@ returns-in_ok-push_text-in-Wait c =
 pub returns-in_ok-push_text-in_default : goal.returns-in_ok-push_text-in_default
 returns-in_ok-push_text-in_default c =
     on_ok_weaker c.push_asked.result
-    (λ e. then_two c.args.out.now.items (codes ", does next at clock " ++ decimal c.args.clock) (codes ": ") (asked_text c.args.legend.now.names c.args.access.now) _ _ _ c.in_ok-push_numbered-in_default.ensures c.in_ok-push_text-in_default.ensures e
+    (λ e. then_two c.args.out.now.items (codes ", does next at clock " ++ decimal c.args.clock) (codes ": ") (asked_text c.args.legend.now.names [] c.args.access.now) _ _ _ c.in_ok-push_numbered-in_default.ensures c.in_ok-push_text-in_default.ensures e
     ∙ ap (λ xs. c.args.out.now.items ++ xs) (sym (asks-else c.args.legend.now.names c.args.clock c.args.access.now c.in_default.not-Wait)))
     c.push_asked.ensures

@@ -40,7 +40,7 @@ returns c = λ sources files long proper some distinct mentioned no_ring image i
             names = told.names;
             text = told.tells.text;
             shown = told.tells.shown;
-            line = ap (λ (x : Option ℕ). line_with legend w past turn (place_text legend.places x)) known ∙ ap (line_with legend w past turn) told.tells.told;
+            line = ap (λ (x : Option ℕ). line_with legend w past turn counter (place_text legend.places x)) known ∙ ap (line_with legend w past turn counter) told.tells.told;
           };
-      none = λ unknown. ap (λ (x : Option ℕ). line_with legend w past turn (place_text legend.places x)) unknown;
+      none = λ unknown. ap (λ (x : Option ℕ). line_with legend w past turn counter (place_text legend.places x)) unknown;
     }
