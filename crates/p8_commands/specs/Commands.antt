@@ -11,7 +11,7 @@ use Rattle.p8_commands.specs.declared.table.Subcommand.{Subcommand}
 use Rattle.p8_commands.specs.declared.table.Subcommand.TheVariants as named
 use Rattle.p8_commands.specs.declared.kind.ImageKind.{ImageKind}
 use Rattle.p8_commands.specs.Kinds.{kind_named}
-use Rattle.p8_commands.specs.Numbers.{is_digit, number_of, number_from, range_of, cog_of, refusal_of, most_clocks, most_shown_clocks, most_turns, usual_turns, most_saved_turns, last_pin, least_bits, most_bits, most_seed}
+use Rattle.p8_commands.specs.Numbers.{is_digit, number_of, number_from, range_of, cog_of, refusal_of, most_clocks, most_shown_clocks, most_turns, usual_turns, most_saved_turns, most_page_turns, last_pin, least_bits, most_bits, least_columns, most_columns, usual_columns, most_seed}
 use Rattle.p8_commands.specs.Pins.{mask_of, span_by, span_of}
 use Rattle.p8_commands.specs.Table.{entry_of, app_for, subcommand_named}
 
@@ -34,8 +34,8 @@ pub data Dump : Type 0 where
 -- bit, or to write a pin script that sends the bytes of a file from a clock on; to write the wave of a run, of all that it has or of what changes, or of
 -- its pins and locks alone; to draw some pins of a run, by their mask, from one clock on and before another; to show a run for reading, all turns or
 -- those of one cog or those that change pins, from one clock on and before another, or none of them, and then what holds in the end, with a dump; to
--- write an image as the other kind of file; to run the made program of a seed; or to tell a command or all of them. A run is made by one thread alone,
--- or by a crew of eight. Where it says whether it is raw, what is run is hub memory where it is, and else an image or a source. Where it says whether
+-- show a run in a browser, from one clock on and before another; to write an image as the other kind of file; to run the made program of a seed; or to
+-- tell a command or all of them. A run is made by one thread alone, or by a crew of eight. Where it says whether it is raw, what is run is hub memory where it is, and else an image or a source. Where it says whether
 -- it is short, a source has its short code where it is.
 pub data Command : Type 0 where
   BuildSource : (short : Bool) (file : List ℕ) → Command
@@ -51,8 +51,9 @@ pub data Command : Type 0 where
   Serial : (raw : Bool) (run : Running) (pin bits : ℕ) → Command
   TypeFile : (file : List ℕ) (pin bits start : ℕ) → Command
   Wave : (alone raw all pins_only : Bool) (run : Running) → Command
-  Plot : (alone raw ascii : Bool) (run : Running) (pins from to : ℕ) → Command
+  Plot : (alone raw ascii : Bool) (run : Running) (pins from to columns : ℕ) → Command
   ViewRun : (raw pins_only quiet : Bool) (run : Running) (cog : Option ℕ) (from to : ℕ) (dump : Option Dump) → Command
+  PageRun : (raw : Bool) (run : Running) (from to : ℕ) → Command
   Convert : ImageKind → (file : List ℕ) → Command
   Make : (alone : Bool) (seed : ℕ) → Command
   Help : (topic : Option Subcommand) → Command
@@ -61,7 +62,7 @@ pub data Command : Type 0 where
 abbrev pub alone_of : Option Command → Option Command
 alone_of (Some (RunProgram false short run)) = None
 alone_of (Some (Wave false raw all pins_only run)) = None
-alone_of (Some (Plot false raw ascii run pins from to)) = None
+alone_of (Some (Plot false raw ascii run pins from to columns)) = None
 alone_of (Some (Make false seed)) = None
 alone_of command = command
 
@@ -106,6 +107,10 @@ read_of value = run_of most_clocks most_turns usual_turns None value
 
 abbrev pub shown_of : (Text → Option Text) → Option Running
 shown_of value = run_of most_shown_clocks most_turns usual_turns None value
+
+-- a run that is shown in a browser
+abbrev pub paged_of : (Text → Option Text) → Option Running
+paged_of value = run_of most_shown_clocks most_page_turns most_page_turns None value
 
 -- a flag with this value is given
 abbrev pub is_given : Option Text → Bool
@@ -152,14 +157,20 @@ run_named alone short run kind = Some (RunProgram alone short run)
 abbrev pub program_of : (alone short : Bool) → Running → Option Command
 program_of alone short run = run_named alone short run (kind_named run.file)
 
-abbrev pub plot_by : (alone raw ascii : Bool) → Option Running → (pins : Option ℕ) → (clocks : Option Text) → Option Command
-plot_by alone raw ascii (Some run) (Some pins) clocks = option_map (λ span. Plot alone raw ascii run pins span.0 span.1) (span_of run.clocks clocks)
-plot_by alone raw ascii _ _ clocks = None
+-- how many columns a picture has at most, by the value of `--width`
+abbrev pub columns_by : Option Text → Option ℕ
+columns_by None = Some usual_columns
+columns_by (Some value) = number_from least_columns most_columns value
+
+abbrev pub plot_by : (alone raw ascii : Bool) → Option Running → (pins columns : Option ℕ) → (clocks : Option Text) → Option Command
+plot_by alone raw ascii (Some run) (Some pins) (Some columns) clocks =
+    option_map (λ span. Plot alone raw ascii run pins span.0 span.1 columns) (span_of run.clocks clocks)
+plot_by alone raw ascii _ _ _ clocks = None
 
 abbrev pub plot_of : (Text → Option Text) → Option Command
 plot_of value =
     plot_by (has_flag (codes "alone") value) (has_flag (codes "raw") value) (has_flag (codes "ascii") value)
-    (shown_of value) (option_and_then mask_of (value (codes "PINS"))) (value (codes "FROM:TO"))
+    (shown_of value) (option_and_then mask_of (value (codes "PINS"))) (columns_by (value (codes "width"))) (value (codes "FROM:TO"))
 
 -- the cog that is shown, by the value of `--cog`; all of them where that isn't given
 abbrev pub cog_by : Option Text → Option (Option ℕ)
@@ -187,6 +198,13 @@ abbrev pub view_of : (Text → Option Text) → Option Command
 view_of value =
     view_by (has_flag (codes "raw") value) (has_flag (codes "pins-only") value) (has_flag (codes "quiet") value)
     (shown_of value) (cog_by (value (codes "cog"))) (value (codes "from")) (value (codes "to")) (value (codes "dump"))
+
+abbrev pub page_by : (raw : Bool) → Option Running → (from to : Option Text) → Option Command
+page_by raw (Some run) from to = option_map (λ shown. PageRun raw run shown.0 shown.1) (shown_by run.clocks from to)
+page_by raw None from to = None
+
+abbrev pub page_of : (Text → Option Text) → Option Command
+page_of value = page_by (has_flag (codes "raw") value) (paged_of value) (value (codes "from")) (value (codes "to"))
 
 -- what is to be explained: a word of digits alone is the number of a refusal, and never a file; a word without a byte is a file
 abbrev pub explain_of : Text → Option Command
@@ -222,6 +240,7 @@ meaning_of named.Wave value =
     (shown_of value)
 meaning_of named.Plot value = plot_of value
 meaning_of named.View value = view_of value
+meaning_of named.Page value = page_of value
 meaning_of named.Convert value = option_and_then convert_of (value (codes "FILE"))
 meaning_of named.Make value = option_map (Make (has_flag (codes "alone") value)) (seed_of value)
 meaning_of named.Help value = option_map Help (topic_of (value (codes "COMMAND")))

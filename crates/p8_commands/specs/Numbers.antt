@@ -75,7 +75,7 @@ range_of _ = None
 abbrev pub most_clocks : ℕ
 most_clocks = 100000000
 
--- the greatest number of clocks of a run that is shown, as a wave, a picture or a view: 50 seconds at 80 MHz
+-- the greatest number of clocks of a run that is shown, as a wave, a picture, a view or a page: 50 seconds at 80 MHz
 abbrev pub most_shown_clocks : ℕ
 most_shown_clocks = 4000000000
 
@@ -89,6 +89,10 @@ usual_turns = 100000
 -- the greatest number of turns of a history that is kept in a file, and how many it has at most where none is asked for
 abbrev pub most_saved_turns : ℕ
 most_saved_turns = 40000
+
+-- the greatest number of turns that a page shows, and how many it has at most where none is asked for
+abbrev pub most_page_turns : ℕ
+most_page_turns = 20000
 
 -- the number of the last pin
 abbrev pub last_pin : ℕ
@@ -104,6 +108,16 @@ least_bits = 2
 
 abbrev pub most_bits : ℕ
 most_bits = 10000
+
+-- how many columns a picture has at most: what may be asked for, and where nothing is
+abbrev pub least_columns : ℕ
+least_columns = 20
+
+abbrev pub most_columns : ℕ
+most_columns = 400
+
+abbrev pub usual_columns : ℕ
+usual_columns = 101
 
 -- the greatest seed of a made program
 abbrev pub most_seed : ℕ

@@ -10,10 +10,10 @@ use Rattle.p8_commands.specs.declared.command.Command.TheVariants as read
 use Rattle.p8_commands.specs.declared.command.Run.{Run as RunRead}
 use Rattle.p8_commands.specs.declared.command.Dump.{Dump as DumpRead}
 use Rattle.p8_commands.specs.declared.command.Dump.TheVariants as dumped
-use Rattle.p8_commands.specs.Commands.{Command, Dump, RangeOf, Named, Running, BuildSource, ListSource, MapSource, ExplainFile, ExplainNumber, HintSource, RunMemory, RunProgram, Save, Check, Serial, TypeFile, Wave, Plot, ViewRun, Convert, Make, Help}
+use Rattle.p8_commands.specs.Commands.{Command, Dump, RangeOf, Named, Running, BuildSource, ListSource, MapSource, ExplainFile, ExplainNumber, HintSource, RunMemory, RunProgram, Save, Check, Serial, TypeFile, Wave, Plot, ViewRun, PageRun, Convert, Make, Help}
 use Rattle.p8_commands.specs.Table.{Argument, Entry}
 use Rattle.p8_commands.specs.Naming.{name_of}
-use Rattle.p8_commands.specs.Numbers.{most_clocks, most_shown_clocks, most_turns, most_saved_turns, last_cog, last_pin, last_refusal, least_bits, most_bits}
+use Rattle.p8_commands.specs.Numbers.{most_clocks, most_shown_clocks, most_turns, most_saved_turns, most_page_turns, last_cog, last_pin, last_refusal, least_bits, most_bits, least_columns, most_columns}
 use Rattle.p8_commands.specs.Ranges.{IsInRam}
 
 abbrev pub argument_of : ArgumentHeld → Argument
@@ -51,8 +51,9 @@ command_read (read.Check raw file history script) = Check raw file.now history.n
 command_read (read.Serial raw run pin bits) = Serial raw (running run) pin bits
 command_read (read.TypeFile file pin bits start) = TypeFile file.now pin bits start
 command_read (read.Wave alone raw all pins_only run) = Wave alone raw all pins_only (running run)
-command_read (read.Plot alone raw ascii run pins from to) = Plot alone raw ascii (running run) pins from to
+command_read (read.Plot alone raw ascii run pins from to columns) = Plot alone raw ascii (running run) pins from to columns
 command_read (read.View raw pins_only quiet run cog from to dump) = ViewRun raw pins_only quiet (running run) cog from to (dump_if_any dump)
+command_read (read.Page raw run from to) = PageRun raw (running run) from to
 command_read (read.Convert kind file) = Convert kind file.now
 command_read (read.Make seed alone) = Make alone seed
 command_read (read.Help topic) = Help topic
@@ -82,8 +83,9 @@ HasLimits (read.Run alone short run) = IsWithin run
 HasLimits (read.Save raw run) = IsWithin run × (run.clocks ≤ most_clocks) × (run.turns ≤ most_saved_turns)
 HasLimits (read.Serial raw run pin bits) = IsWithin run × IsOnPin pin bits
 HasLimits (read.Wave alone raw all pins_only run) = IsWithin run
-HasLimits (read.Plot alone raw ascii run pins from to) = IsWithin run
+HasLimits (read.Plot alone raw ascii run pins from to columns) = IsWithin run × (least_columns ≤ columns) × (columns ≤ most_columns)
 HasLimits (read.View raw pins_only quiet run cog from to dump) = IsWithin run × ForSome cog (λ number. number ≤ last_cog) × IsDumpInRam dump
+HasLimits (read.Page raw run from to) = IsWithin run × (run.turns ≤ most_page_turns) × (from ≤ most_shown_clocks)
 HasLimits (read.ExplainNumber number) = (1 ≤ number) × (number ≤ last_refusal)
 HasLimits (read.TypeFile file pin bits start) = IsOnPin pin bits × (1 ≤ start) × (start ≤ most_clocks)
 HasLimits _ = Unit {0}

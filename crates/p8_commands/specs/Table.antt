@@ -53,6 +53,9 @@ pins =
 abbrev pub turns : Argument
 turns = valued (codes "turns") (codes "K") (codes "the run ends after K turns too: 1 to 10 digits, at most 1000000; else 100000")
 
+abbrev pub page_turns : Argument
+page_turns = valued (codes "turns") (codes "K") (codes "the run ends after K turns too: 1 to 10 digits, at most 20000; else 20000")
+
 abbrev pub saved_turns : Argument
 saved_turns = valued (codes "turns") (codes "K") (codes "the run ends after K turns too: 1 to 10 digits, at most 40000; else 40000")
 
@@ -89,6 +92,9 @@ abbrev pub shown_clocks : Argument
 shown_clocks =
     optional (codes "FROM:TO")
     (codes "the clocks to draw, from FROM on and before TO: each 1 to 10 digits, FROM at most TO, and TO at most CLOCKS; else all")
+
+abbrev pub width : Argument
+width = valued (codes "width") (codes "N") (codes "a line has N columns at most: 1 to 10 digits, from 20 to 400; else 101")
 
 abbrev pub explained : Argument
 explained = operand (codes "WORD") (codes "the top file of a project, a source in Spin; or the number of a refusal, 1 or 2 digits, from 1 to 31")
@@ -200,9 +206,9 @@ entry_of named.Wave = record {
 }
 entry_of named.Plot = record {
   word = codes "plot";
-  arguments = any_file ∷ shown_run_clocks ∷ shown_pins ∷ shown_clocks ∷ pins ∷ turns ∷ raw ∷ flag (codes "ascii") (codes "draws with characters of ASCII alone") ∷ alone ∷ [];
+  arguments = any_file ∷ shown_run_clocks ∷ shown_pins ∷ shown_clocks ∷ pins ∷ turns ∷ raw ∷ flag (codes "ascii") (codes "draws with characters of ASCII alone") ∷ width ∷ alone ∷ [];
   about = codes "Runs a file up to a clock, and draws the levels of some pins as text, a line for each pin.";
-  examples = codes "prop plot blink.spin 200000 16" ∷ codes "prop plot blink.spin 200000 0,16-23 1000:9000 --ascii" ∷ [];
+  examples = codes "prop plot blink.spin 200000 16" ∷ codes "prop plot blink.spin 200000 0,16-23 1000:9000 --ascii --width 60" ∷ [];
 }
 entry_of named.View = record {
   word = codes "view";
@@ -211,6 +217,12 @@ entry_of named.View = record {
       ∷ flag (codes "pins-only") (codes "shows what changes pins alone") ∷ flag (codes "quiet") (codes "shows no turn, and tells the end alone") ∷ named_dump ∷ [];
   about = codes "Runs a file up to a clock, and writes its history for reading, with the names and the lines of a source, and what each cog does in the end.";
   examples = codes "prop view blink.spin 20000 --cog 1" ∷ codes "prop view blink.spin 200000 --quiet --dump ser.rx_head" ∷ [];
+}
+entry_of named.Page = record {
+  word = codes "page";
+  arguments = any_file ∷ shown_run_clocks ∷ pins ∷ page_turns ∷ raw ∷ from ∷ to ∷ [];
+  about = codes "Runs a file up to a clock, and writes a page in HTML that shows the run in a browser: cogs, pins, the hub, and the lines of a source.";
+  examples = codes "prop page blink.spin 200000 > blink.html" ∷ codes "prop page blink.spin 200000 --from 8000 --turns 500" ∷ [];
 }
 entry_of named.Convert = record {
   word = codes "convert";
@@ -235,7 +247,7 @@ entry_of named.Help = record {
 abbrev pub subcommands : List Subcommand
 subcommands =
     named.Build ∷ named.List ∷ named.Map ∷ named.Explain ∷ named.Hint ∷ named.Raw ∷ named.Run ∷ named.Save ∷ named.Check ∷ named.Serial ∷ named.TypeFile ∷ named.Wave
-    ∷ named.Plot ∷ named.View ∷ named.Convert ∷ named.Make ∷ named.Help ∷ []
+    ∷ named.Plot ∷ named.View ∷ named.Page ∷ named.Convert ∷ named.Make ∷ named.Help ∷ []
 
 -- the command that a word names
 unfoldable pub subcommand_named : Text → Option Subcommand

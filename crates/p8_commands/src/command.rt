@@ -10,7 +10,7 @@ use crate::table::Subcommand;
 #[derive(Clone, Copy)]
 pub struct Run<'a> {
     pub file: &'a str,
-    /// No turn is made at this clock or later; at most 4,000,000,000, and 100,000,000 where the run isn't shown as a wave, a picture or a view.
+    /// No turn is made at this clock or later; at most 4,000,000,000, and 100,000,000 where the run isn't shown as a wave, a picture, a view or a page.
     pub clocks: u64,
     /// The file of a pin script.
     pub script: Option<&'a str>,
@@ -126,6 +126,8 @@ pub enum Command<'a> {
         from: u64,
         /// The clock before which it ends, at least the first one and at most the run's.
         to: u64,
+        /// How many columns a line has at most: 20 to 400.
+        columns: u16,
     },
     /// Writes the history of a run for reading, by one thread. What is run is hub memory where it is raw, and else an image or a source.
     View {
@@ -144,6 +146,16 @@ pub enum Command<'a> {
         to: u64,
         /// What is dumped in the end.
         dump: Option<Dump<'a>>,
+    },
+    /// Writes a page that shows a run in a browser, by one thread. What is run is hub memory where it is raw, and else an image or a source.
+    Page {
+        raw: bool,
+        /// The run, of at most 20,000 turns; it has no dump.
+        run: Run<'a>,
+        /// The first clock that is shown.
+        from: u64,
+        /// The clock before which it ends, at least the first one and at most the run's.
+        to: u64,
     },
     /// Writes an image of this kind as the other kind of file.
     Convert {
@@ -175,6 +187,7 @@ impl Command<'_> {
             Command::Save { .. } | Command::Check { .. } => false,
             Command::Serial { .. } | Command::TypeFile { .. } => false,
             Command::Wave { .. } | Command::Plot { .. } | Command::View { .. } => false,
+            Command::Page { .. } => false,
             Command::Convert { .. } | Command::Make { .. } => false,
             Command::Help { .. } => false,
         }
@@ -193,6 +206,7 @@ impl Command<'_> {
             Command::Check { .. } | Command::Convert { .. } => true,
             Command::Serial { .. } | Command::TypeFile { .. } => true,
             Command::View { .. } => true,
+            Command::Page { .. } => true,
             Command::Help { .. } => true,
             Command::Run { alone, .. } => alone,
             Command::Wave { alone, .. } => alone,

@@ -1,5 +1,6 @@
 // Which pins and which clocks of a run are shown, in the words of the command line.
-ghost use Rattle.std.specs.Prelude.{◌≡◌, ◌≤◌, ◌==◌, ◌^◌, position};
+ghost use Rattle.std.specs.Prelude.{◌≡◌, ◌≤◌, ◌==◌, ◌^◌, ℕ, position};
+ghost use Rattle.std.specs.Option.{ForSome};
 ghost use Rattle.p8_commands.specs.Naming.{name_of};
 ghost use Rattle.p8_commands.specs.Numbers.{last_pin, most_seed};
 ghost use Rattle.p8_commands.specs.Pins.{cut_at, mask_between as mask_between_of, mask_by as mask_by_of, mask_of_part, mask_of, span_by as span_by_of, span_of};
@@ -76,7 +77,8 @@ pub fn mask_in(text: &[u8]) -> Option<u32>
 
 /// The clocks from one on and before another one, or None where one of them isn't told, or the other one comes first.
 pub fn span_by(from: Option<u64>, to: Option<u64>) -> Option<(u64, u64)>
-    ensures { result ≡ span_by_of from to }
+    ensures span { result ≡ span_by_of from to }
+    ensures first { (most : ℕ) → ForSome from (λ clock. clock ≤ most) → ForSome result (λ span. span.0 ≤ most) }
 {
     let from = from?;
     let to = to?;

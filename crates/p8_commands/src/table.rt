@@ -70,6 +70,8 @@ pub enum Subcommand {
     Plot,
     /// Writes the history of a run for reading.
     View,
+    /// Writes a page that shows a run in a browser.
+    Page,
     /// Writes an image as the other kind of file.
     Convert,
     /// Runs a made program.
@@ -118,6 +120,13 @@ const SAVED_TURNS: Argument = Argument {
     name: "turns",
     value: "K",
     about: "the run ends after K turns too: 1 to 10 digits, at most 40000; else 40000",
+};
+
+const PAGE_TURNS: Argument = Argument {
+    kind: ArgumentKind::Valued,
+    name: "turns",
+    value: "K",
+    about: "the run ends after K turns too: 1 to 10 digits, at most 20000; else 20000",
 };
 
 const DUMP: Argument = Argument {
@@ -209,6 +218,13 @@ const ASCII: Argument = Argument {
     name: "ascii",
     value: "",
     about: "draws with characters of ASCII alone",
+};
+
+const WIDTH: Argument = Argument {
+    kind: ArgumentKind::Valued,
+    name: "width",
+    value: "N",
+    about: "a line has N columns at most: 1 to 10 digits, from 20 to 400; else 101",
 };
 
 const SHORT: Argument = Argument {
@@ -336,6 +352,7 @@ impl Subcommand {
             Subcommand::Wave,
             Subcommand::Plot,
             Subcommand::View,
+            Subcommand::Page,
             Subcommand::Convert,
             Subcommand::Make,
             Subcommand::Help,
@@ -463,12 +480,13 @@ impl Subcommand {
                     TURNS,
                     RAW,
                     ASCII,
+                    WIDTH,
                     ALONE,
                 ],
                 about: "Runs a file up to a clock, and draws the levels of some pins as text, a line for each pin.",
                 examples: &[
                     "prop plot blink.spin 200000 16",
-                    "prop plot blink.spin 200000 0,16-23 1000:9000 --ascii",
+                    "prop plot blink.spin 200000 0,16-23 1000:9000 --ascii --width 60",
                 ],
             },
             Subcommand::View => Row {
@@ -491,6 +509,15 @@ impl Subcommand {
                 examples: &[
                     "prop view blink.spin 20000 --cog 1",
                     "prop view blink.spin 200000 --quiet --dump ser.rx_head",
+                ],
+            },
+            Subcommand::Page => Row {
+                word: "page",
+                arguments: &[ANY_FILE, SHOWN_RUN_CLOCKS, PINS, PAGE_TURNS, RAW, FROM, TO],
+                about: "Runs a file up to a clock, and writes a page in HTML that shows the run in a browser: cogs, pins, the hub, and the lines of a source.",
+                examples: &[
+                    "prop page blink.spin 200000 > blink.html",
+                    "prop page blink.spin 200000 --from 8000 --turns 500",
                 ],
             },
             Subcommand::Convert => Row {

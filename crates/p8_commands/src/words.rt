@@ -3,9 +3,9 @@ ghost use Rattle.std.specs.Prelude.{◌≡◌, ◌≤◌, Some, None, codes, map
 ghost use Rattle.std.specs.Option.{ForSome};
 ghost use Rattle.clap.specs.Matches.{first_value, found_of};
 ghost use Rattle.p8_commands.specs.Commands.{command_of, said_to, meaning_of, run_of, traced_of, saved_of, number_by};
-ghost use Rattle.p8_commands.specs.Commands.{dump_by, is_given as is_given_by, has_flag as has_flag_by, check_of, read_of, shown_of, pin_of, bits_of, serial_of, type_of, program_of, plot_of, cog_by, dumped_of, shown_by, view_of, explain_of, seed_of, topic_of, convert_of};
+ghost use Rattle.p8_commands.specs.Commands.{dump_by, is_given as is_given_by, has_flag as has_flag_by, check_of, read_of, shown_of, paged_of, pin_of, bits_of, serial_of, type_of, program_of, columns_by, plot_of, cog_by, dumped_of, shown_by, view_of, page_of, explain_of, seed_of, topic_of, convert_of};
 ghost use Rattle.p8_commands.specs.Naming.{name_of};
-ghost use Rattle.p8_commands.specs.Numbers.{most_clocks, most_saved_turns, most_seed, most_shown_clocks, most_turns, last_cog, last_pin, least_bits, most_bits};
+ghost use Rattle.p8_commands.specs.Numbers.{most_clocks, most_page_turns, most_saved_turns, most_seed, most_shown_clocks, most_turns, last_cog, last_pin, least_bits, most_bits, least_columns, most_columns};
 ghost use Rattle.p8_commands.specs.Ranges.{IsInRam};
 ghost use Rattle.p8_commands.specs.Seen.{command_if_any, dump_if_any, run_if_any, running, IsDumpInRam, IsWithin, HasLimits};
 
@@ -34,10 +34,20 @@ const USUAL_TURNS: u64 = 100_000;
 /// The greatest number of turns of a history that is kept in a file, and how many it has at most where no number is asked for.
 const MOST_SAVED_TURNS: u64 = 40_000;
 
+/// The greatest number of turns that a page shows, and how many it has at most where no number is asked for.
+const MOST_PAGE_TURNS: u64 = 20_000;
+
 /// How many clocks a bit has at least and at most.
 const LEAST_BITS: u64 = 2;
 
 const MOST_BITS: u64 = 10_000;
+
+/// How many columns a picture has at most: what may be asked for, and where nothing is.
+const LEAST_COLUMNS: u64 = 20;
+
+const MOST_COLUMNS: u64 = 400;
+
+const USUAL_COLUMNS: u16 = 101;
 
 /// The greatest seed of a made program.
 const MOST_SEED: u64 = 4_294_967_295;
@@ -142,6 +152,21 @@ fn shown_in<'a>(matches: &ArgMatches<'a>) -> Option<Run<'a>>
     run_in(matches, MOST_SHOWN_CLOCKS, MOST_TURNS, USUAL_TURNS, None)
 }
 
+/// A run that is shown in a browser.
+fn paged_in<'a>(matches: &ArgMatches<'a>) -> Option<Run<'a>>
+    ensures seen { run_if_any result ≡ paged_of (first_value (found_of matches.now)) }
+    ensures within { IfSome result IsWithin }
+    ensures turns { IfSome result (λ run. run.turns ≤ most_page_turns) }
+{
+    run_in(
+        matches,
+        MOST_SHOWN_CLOCKS,
+        MOST_PAGE_TURNS,
+        MOST_PAGE_TURNS,
+        None,
+    )
+}
+
 /// Whether a flag with this value is given.
 fn is_given(value: Option<&str>) -> bool
     ensures { result ≡ is_given_by (name_of value.entry) }
@@ -229,6 +254,19 @@ fn program_in(alone: bool, short: bool, run: Run<'_>) -> Option<Command<'_>>
     Some(Command::Run { alone, short, run })
 }
 
+/// How many columns a picture has at most, by the value of `--width`, or None for another spelling.
+fn columns_in(value: Option<&str>) -> Option<u16>
+    ensures columns { result ≡ columns_by (name_of value.entry) }
+    ensures least { ForSome result (λ columns. least_columns ≤ columns) }
+    ensures within { ForSome result (λ columns. columns ≤ most_columns) }
+{
+    let Some(text) = value else {
+        return Some(USUAL_COLUMNS);
+    };
+    let columns = number_from(text.as_bytes(), LEAST_COLUMNS, MOST_COLUMNS)?;
+    Some(columns as u16)
+}
+
 /// The command to draw pins, or None where a value has another spelling.
 fn plot_in<'a>(matches: &ArgMatches<'a>) -> Option<Command<'a>>
     ensures seen { command_if_any result ≡ plot_of (first_value (found_of matches.now)) }
@@ -236,6 +274,7 @@ fn plot_in<'a>(matches: &ArgMatches<'a>) -> Option<Command<'a>>
 {
     let run = shown_in(matches)?;
     let pins = mask_in(matches.get_str("PINS")?.as_bytes())?;
+    let columns = columns_in(matches.get_str("width"))?;
     let (from, to) = span_in(matches.get_str("FROM:TO"), run.clocks)?;
     Some(Command::Plot {
         alone: has_flag(matches, "alone"),
@@ -245,6 +284,7 @@ fn plot_in<'a>(matches: &ArgMatches<'a>) -> Option<Command<'a>>
         pins,
         from,
         to,
+        columns,
     })
 }
 
@@ -262,7 +302,8 @@ fn shown_cog(value: Option<&str>) -> Option<Option<u8>>
 /// The clocks that the values of `--from` and `--to` say of a run with so many, or None for another spelling.
 fn shown_clocks(from: Option<&str>, to: Option<&str>, clocks: u64) -> Option<(u64, u64)>
     requires { clocks ≤ most_seed }
-    ensures { result ≡ shown_by clocks (name_of from.entry) (name_of to.entry) }
+    ensures shown { result ≡ shown_by clocks (name_of from.entry) (name_of to.entry) }
+    ensures first { ForSome result (λ shown. shown.0 ≤ clocks) }
 {
     span_by(number_or(from, clocks, 0), number_or(to, clocks, clocks))
 }
@@ -296,6 +337,21 @@ fn view_in<'a>(matches: &ArgMatches<'a>) -> Option<Command<'a>>
         from,
         to,
         dump: dumped_by(matches.get_str("dump")),
+    })
+}
+
+/// The command to show a run in a browser, or None where a value has another spelling.
+fn page_in<'a>(matches: &ArgMatches<'a>) -> Option<Command<'a>>
+    ensures seen { command_if_any result ≡ page_of (first_value (found_of matches.now)) }
+    ensures within { IfSome result HasLimits }
+{
+    let run = paged_in(matches)?;
+    let (from, to) = shown_clocks(matches.get_str("from"), matches.get_str("to"), run.clocks)?;
+    Some(Command::Page {
+        raw: has_flag(matches, "raw"),
+        run,
+        from,
+        to,
     })
 }
 
@@ -386,6 +442,7 @@ fn meaning_in<'a>(command: Subcommand, matches: &ArgMatches<'a>) -> Option<Comma
         }),
         Subcommand::Plot => plot_in(matches),
         Subcommand::View => view_in(matches),
+        Subcommand::Page => page_in(matches),
         Subcommand::Convert => convert_in(matches.get_str("FILE")?),
         Subcommand::Make => Some(Command::Make {
             seed: seed_in(matches)?,
