@@ -29,7 +29,8 @@ use Rattle.p8_legend.specs.Projects.{IsLegendOf}
 use Rattle.p8_opt.specs.Shorts.{IsShortImageBuilt, IsShortBuiltTo}
 use Rattle.p8_inputs.specs.Gathered.{StopsAtBuilding, IsImageBuiltBy, AreBuiltBy, IsListingOf}
 use Rattle.p8_inputs.specs.Runs.{HasProperTrees}
-use Rattle.p8_inputs.specs.Sources.{GathersTo, IsImageFrom, IsListingFrom, IsMapFrom, IsHintsFrom, IsProjectLegend, when_built}
+use Rattle.p8_page.specs.Page.{Block}
+use Rattle.p8_inputs.specs.Sources.{GathersTo, IsImageFrom, IsListingFrom, IsMapFrom, IsHintsFrom, IsProjectLegend, AreBlocksOf, AreProjectBlocks, when_built}
 use Rattle.p8_inputs.specs.Asks.{StopsAtProgram}
 
 -- what is built is built by the choice
@@ -61,6 +62,9 @@ module _ (files : Files) (short : Bool) (top : List ℕ) (sources : List NamedSo
 
   pub legend-from : (texts : List (List ℕ)) → AreSources files sources texts → (legend : Legend) → IsLegendOf texts sources legend → IsProjectLegend files top legend
   legend-from texts are legend is = (sources, gathered, texts, are, is)
+
+  pub blocks-from : (texts : List (List ℕ)) → AreSources files sources texts → (blocks : List Block) → AreBlocksOf texts sources blocks → AreProjectBlocks files top blocks
+  blocks-from texts are blocks is = (sources, gathered, texts, are, is)
 
   pub building-stops : (texts : List (List ℕ)) → AreSources files sources texts → (before now : ℕ) (stop : Stop) → StopsAtBuilding sources texts stop → StopsAtProgram files before now (Source short) top stop
   building-stops texts are before now (Refused file f size) (measured, has) = when_built sources gathered measured (text-read files sources texts file are has)

@@ -29,7 +29,9 @@ use Rattle.p8_inputs.specs.declared.stop.Stop.TheVariants.{Unread, Missing, NoMe
 use Rattle.p8_inputs.specs.Programs.{fault_of}
 use Rattle.p8_inputs.specs.Sources.{HasOneOutcome, IsBuiltFrom, IsListingFrom, IsMapFrom, IsHintsFrom}
 use Rattle.p8_inputs.specs.Inputs.{IsProgram, IsScriptFor, IsProgramUnread, HasFault}
-use Rattle.p8_inputs.specs.Asks.{most_sent, Ask, program, viewing, listing, mapping, hinting, script, history, message, Given, bytes, viewed, lines, Gives, Give, StopsAtFile, StopsAtMessage, StopsAtProgram, StopsAtScript, IsUnnamed, StopsAt, StopsFirst, Stops, IsOfFiles, HasOneReading}
+use Rattle.p8_page.specs.Page.{Block}
+use Rattle.p8_inputs.specs.Pages.{AreBlocksFrom}
+use Rattle.p8_inputs.specs.Asks.{most_sent, Ask, program, viewing, paging, listing, mapping, hinting, script, history, message, Given, bytes, viewed, paged, lines, Gives, Give, StopsAtFile, StopsAtMessage, StopsAtProgram, StopsAtScript, IsUnnamed, StopsAt, StopsFirst, Stops, IsOfFiles, HasOneReading}
 use Rattle.p8_inputs.specs.Legends.{IsLegendFrom, HasName, range_in}
 use Rattle.p8_inputs.proofs.Mapping.{map-built, hints-built}
 use Rattle.p8_inputs.proofs.Naming.{same-nothing}
@@ -301,6 +303,13 @@ module _ (files : List ℕ → Option (List ℕ)) where
     viewing-never_both before now format file xs legend name stop s is (inl p) = program-never_both before now format file xs stop s is.0 p
     viewing-never_both before now format file xs legend name stop s is (inr p) = unnamed-never_both format file legend name stop is.1 is.2 p
 
+    blocks-of_one : (format : Format) (file : List ℕ) (a b : List Block) → AreBlocksFrom (Some files) format file a → AreBlocksFrom (Some files) format file b → a ≡ b
+    blocks-of_one (Source false) file a b p q = one.one_blocks file a b p q
+    blocks-of_one (Source true) file a b p q = p ∙ sym q
+    blocks-of_one Memory file a b p q = p ∙ sym q
+    blocks-of_one Image file a b p q = p ∙ sym q
+    blocks-of_one Eeprom file a b p q = p ∙ sym q
+
     -- ---- an ask
 
     gives-one : (ask : Ask) (a b : Given) → Gives (Some files) ask a → Gives (Some files) ask b → a ≡ b
@@ -309,6 +318,11 @@ module _ (files : List ℕ → Option (List ℕ)) where
         let text : xs ≡ ys = program-one format file xs ys p.0 q.0 in
         let legend : k ≡ l = legend-of_one format file k l p.1 q.1 in
         λ i. viewed (text i) (legend i)
+    gives-one (paging format file) (paged xs k b) (paged ys l d) p q =
+        let text : xs ≡ ys = program-one format file xs ys p.0 q.0 in
+        let legend : k ≡ l = legend-of_one format file k l p.1 q.1 in
+        let blocks : b ≡ d = blocks-of_one format file b d p.2 q.2 in
+        λ i. paged (text i) (legend i) (blocks i)
     gives-one (listing short file) (bytes xs) (bytes ys) p q = ap bytes (listing-one short file xs ys p q)
     gives-one (mapping file) (bytes xs) (bytes ys) p q = ap bytes (one.one_map file xs ys p q)
     gives-one (hinting file) (bytes xs) (bytes ys) p q = ap bytes (one.one_hints file xs ys p q)
@@ -319,6 +333,8 @@ module _ (files : List ℕ → Option (List ℕ)) where
     gives-one (program format file) a b p q = absurd p
     gives-one (viewing format file name) (viewed xs k) b p q = absurd q
     gives-one (viewing format file name) a b p q = absurd p
+    gives-one (paging format file) (paged xs k d) b p q = absurd q
+    gives-one (paging format file) a b p q = absurd p
     gives-one (listing short file) (bytes xs) b p q = absurd q
     gives-one (listing short file) a b p q = absurd p
     gives-one (mapping file) (bytes xs) b p q = absurd q
@@ -335,6 +351,7 @@ module _ (files : List ℕ → Option (List ℕ)) where
     stop-one : (before now : ℕ) (ask : Ask) (a b : Stop) → IsOfFiles a → IsOfFiles b → StopsAt (Some files) before now ask a → StopsAt (Some files) before now ask b → a ≡ b
     stop-one before now (program format file) a b s t p q = program-stop-one before now format file a b s t p q
     stop-one before now (viewing format file name) a b s t p q = viewing-stop-one before now format file name a b s t p q
+    stop-one before now (paging format file) a b s t p q = program-stop-one before now format file a b s t p q
     stop-one before now (listing short file) a b s t p q = program-stop-one before now (Source short) file a b s t p q
     stop-one before now (mapping file) a b s t p q = program-stop-one before now (Source false) file a b s t p q
     stop-one before now (hinting file) a b s t p q = program-stop-one before now (Source false) file a b s t p q
@@ -352,11 +369,13 @@ module _ (files : List ℕ → Option (List ℕ)) where
         let built = image-of_hints file xs is in
         program-never_both before now (Source false) file built.0 stop s built.1 stops
     never-both before now (viewing format file name) (viewed xs legend) stop s is stops = viewing-never_both before now format file xs legend name stop s is stops
+    never-both before now (paging format file) (paged xs legend blocks) stop s is stops = program-never_both before now format file xs stop s is.0 stops
     never-both before now (script file) (lines xs) stop s is stops = script-never_both before now file xs stop s is stops
     never-both before now (history file) (bytes xs) stop s is stops = file-never_both before now file xs stop s is stops
     never-both before now (message file) (bytes xs) stop s is stops = message-never_both before now file xs stop s is.0 is.1 stops
     never-both before now (program format file) given stop s is stops = is
     never-both before now (viewing format file name) given stop s is stops = is
+    never-both before now (paging format file) given stop s is stops = is
     never-both before now (listing short file) given stop s is stops = is
     never-both before now (mapping file) given stop s is stops = is
     never-both before now (hinting file) given stop s is stops = is
@@ -429,6 +448,7 @@ ask-unread-rose : (files : Files) (before now : ℕ) (ask : Ask) (name : List �
 ask-unread-rose files before now (program format file) name unread = program-unread-rose files before now format file name unread
 ask-unread-rose files before now (viewing format file other) name (inl unread) = program-unread-rose files before now format file name unread
 ask-unread-rose files before now (viewing format file other) name (inr none) = absurd none
+ask-unread-rose files before now (paging format file) name unread = program-unread-rose files before now format file name unread
 ask-unread-rose files before now (listing short file) name unread = program-unread-rose files before now (Source short) file name unread
 ask-unread-rose files before now (mapping file) name unread = program-unread-rose files before now (Source false) file name unread
 ask-unread-rose files before now (hinting file) name unread = program-unread-rose files before now (Source false) file name unread

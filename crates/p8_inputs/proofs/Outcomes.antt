@@ -1,5 +1,5 @@
 -- A source on a shelf that tells its files has one outcome.
-use Rattle.std.proofs.Common.{◌≡◌, ◌∙◌, ℕ, Bool, true, false, List, [], ◌∷◌, Option, Some, None, ap, sym, subst, refl}
+use Rattle.std.proofs.Common.{◌≡◌, ◌∙◌, ℕ, Bool, true, false, List, [], ◌∷◌, ◌++◌, Option, Some, None, ap, sym, subst, refl}
 use Rattle.p8_tree.specs.Projects.{NamedSource}
 use Rattle.p8_tree.specs.declared.faults.Fault.{Fault}
 use Rattle.p8_kinds.specs.declared.children.Children.{Children}
@@ -21,7 +21,8 @@ use Rattle.p8_map.specs.Projects.{IsMapOf}
 use Rattle.p8_hint.specs.Projects.{IsHintsOf}
 use Rattle.p8_opt.specs.Shorts.{IsShortBuilt}
 use Rattle.p8_legend.specs.Projects.{AreSame, IsLegendOf}
-use Rattle.p8_inputs.specs.Sources.{GathersTo, IsBuiltBy, IsBuiltFrom, IsMapFrom, IsHintsFrom, IsProjectLegend, IsRefusedFrom, while_gathered, when_built, HasOneOutcome}
+use Rattle.p8_page.specs.Page.{Block, map_block}
+use Rattle.p8_inputs.specs.Sources.{GathersTo, IsBuiltBy, IsBuiltFrom, IsMapFrom, IsHintsFrom, IsProjectLegend, file_blocks, AreBlocksOf, AreProjectBlocks, IsRefusedFrom, while_gathered, when_built, HasOneOutcome}
 use Rattle.p8_inputs.proofs.Gathering.{distinct, no_ring}
 use Rattle.p8_inputs.proofs.Mapping.{map-one}
 use Rattle.p8_inputs.proofs.Naming.{same-legend}
@@ -129,6 +130,15 @@ module _ (one : OneGathered) (same : OneBuilt) (refusal : OneRefused) (either : 
       map-one q.2 q.0 (views q.0 (distinct q.0 whole.distinct) (no_ring q.0 whole.no_ring)) a b
       (subst (λ (ts : List (List ℕ)). IsMapOf ts q.0 a) texts (subst (λ (s : List NamedSource). IsMapOf p.2 s a) e p.4)) q.4
 
+  one-blocks : (top : List ℕ) (a b : List Block) → AreProjectBlocks (Some files) top a → AreProjectBlocks (Some files) top b → a ≡ b
+  one-blocks top a b p q =
+      let e : p.0 ≡ q.0 = one-project top p.0 q.0 p.1 q.1 in
+      let whole = whole_project (q.1 0 0) in
+      let texts : p.2 ≡ q.2 = one-sources files q.0 p.2 q.2 (subst (λ (s : List NamedSource). AreSources (Some files) s p.2) e p.3) q.3 in
+      let is = subst (λ (ts : List (List ℕ)). AreBlocksOf ts q.0 a) texts (subst (λ (s : List NamedSource). AreBlocksOf p.2 s a) e p.4) in
+      let map : is.0 ≡ q.4.0 = map-one q.2 q.0 (views q.0 (distinct q.0 whole.distinct) (no_ring q.0 whole.no_ring)) is.0 q.4.0 is.1 q.4.1 in
+      is.2 ∙ ap (λ (text : List ℕ). map_block text ++ file_blocks q.0 q.2) map ∙ sym q.4.2
+
   one-hints : (top a b : List ℕ) → IsHintsFrom (Some files) top a → IsHintsFrom (Some files) top b → a ≡ b
   one-hints top a b p q =
       let e : p.0 ≡ q.0 = one-project top p.0 q.0 p.1 q.1 in
@@ -177,6 +187,7 @@ module _ (one : OneGathered) (same : OneBuilt) (refusal : OneRefused) (either : 
   one-outcome = record {
     one_image = one-image;
     one_map = one-map;
+    one_blocks = one-blocks;
     one_hints = one-hints;
     one_legend = one-legend;
     not_missing = λ before now short top name mention sources clock objects g h. project-not_missing (one files before now top (project sources) (missing name mention) (g.gathered before now) h tt tt);

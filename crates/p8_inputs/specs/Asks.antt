@@ -12,14 +12,17 @@ use Rattle.p8_inputs.specs.declared.stop.Stop.{Stop}
 use Rattle.p8_inputs.specs.declared.stop.Stop.TheVariants.{Unread, Missing, NoMemory, Refused, BadProgram, BadScript, Unnamed}
 use Rattle.p8_inputs.specs.Inputs.{IsProgram, IsScriptFor, IsProgramMissing, IsProgramUnread, HasRefusal, HasFault}
 use Rattle.p8_inputs.specs.Legends.{IsLegendFrom, HasName, range_in}
+use Rattle.p8_inputs.specs.Pages.{AreBlocksFrom}
+use Rattle.p8_page.specs.Page.{Block}
 use Rattle.p8_inputs.specs.Sources.{IsListingFrom, IsMapFrom, IsHintsFrom}
 
--- an ask: for the program of a file, by what the file is taken for; for that with its legend, in which this name stands, where one is asked for; for the listing of a source, with its short code where it is short; for the map of a
+-- an ask: for the program of a file, by what the file is taken for; for that with its legend, in which this name stands, where one is asked for; for that with its legend and with what a page shows of its project; for the listing of a source, with its short code where it is short; for the map of a
 -- source; for the hints at what is most likely a slip in a source; for the pin script of a file; for the bytes of a history file, whatever they are; or for the bytes of a message, which is to be sent and has at
 -- most 5,000
 pub data Ask : Type 0 where
   program : Format → (file : List ℕ) → Ask
   viewing : Format → (file : List ℕ) → (name : Option (List ℕ)) → Ask
+  paging : Format → (file : List ℕ) → Ask
   listing : (short : Bool) (file : List ℕ) → Ask
   mapping : (file : List ℕ) → Ask
   hinting : (file : List ℕ) → Ask
@@ -27,11 +30,12 @@ pub data Ask : Type 0 where
   history : (file : List ℕ) → Ask
   message : (file : List ℕ) → Ask
 
--- what an ask is given: the bytes of a program, of a listing, of a map, of hints, of a history file or of a message, the bytes of a program with its legend, or the
+-- what an ask is given: the bytes of a program, of a listing, of a map, of hints, of a history file or of a message, the bytes of a program with its legend, and with the blocks of its project, or the
 -- lines of a pin script
 pub data Given : Type 0 where
   bytes : List ℕ → Given
   viewed : List ℕ → Legend → Given
+  paged : List ℕ → Legend → List Block → Given
   lines : List Line → Given
 
 -- how many bytes a message has at most
@@ -51,6 +55,10 @@ run_asks format file named = program format file ∷ script_ask named
 abbrev pub view_asks : Format → (file : List ℕ) → (name script : Option (List ℕ)) → List Ask
 view_asks format file name named = viewing format file name ∷ script_ask named
 
+-- a run that is shown in a browser asks for its program with all that the page shows of it, and then for its pin script
+abbrev pub page_asks : Format → (file : List ℕ) → (script : Option (List ℕ)) → List Ask
+page_asks format file named = paging format file ∷ script_ask named
+
 -- a history is checked after both
 abbrev pub check_asks : Format → (file : List ℕ) → (script : Option (List ℕ)) → (recorded : List ℕ) → List Ask
 check_asks format file named recorded = run_asks format file named ++ history recorded ∷ []
@@ -61,6 +69,7 @@ check_asks format file named recorded = run_asks format file named ++ history re
 abbrev pub Gives : Files → Ask → Given → Type 0
 Gives files (program format file) (bytes xs) = IsProgram files format file xs
 Gives files (viewing format file name) (viewed xs legend) = IsProgram files format file xs × IsLegendFrom files format file legend × HasName legend name
+Gives files (paging format file) (paged xs legend blocks) = IsProgram files format file xs × IsLegendFrom files format file legend × AreBlocksFrom files format file blocks
 Gives files (listing short file) (bytes xs) = IsListingFrom files short file xs
 Gives files (mapping file) (bytes xs) = IsMapFrom files file xs
 Gives files (hinting file) (bytes xs) = IsHintsFrom files file xs
@@ -71,6 +80,17 @@ Gives files (program format file) (viewed xs legend) = ⊥
 Gives files (program format file) (lines xs) = ⊥
 Gives files (viewing format file name) (bytes xs) = ⊥
 Gives files (viewing format file name) (lines xs) = ⊥
+Gives files (paging format file) (bytes xs) = ⊥
+Gives files (paging format file) (viewed xs legend) = ⊥
+Gives files (paging format file) (lines xs) = ⊥
+Gives files (program format file) (paged xs legend blocks) = ⊥
+Gives files (viewing format file name) (paged xs legend blocks) = ⊥
+Gives files (listing short file) (paged xs legend blocks) = ⊥
+Gives files (mapping file) (paged xs legend blocks) = ⊥
+Gives files (hinting file) (paged xs legend blocks) = ⊥
+Gives files (script file) (paged xs legend blocks) = ⊥
+Gives files (history file) (paged xs legend blocks) = ⊥
+Gives files (message file) (paged xs legend blocks) = ⊥
 Gives files (listing short file) (viewed xs legend) = ⊥
 Gives files (listing short file) (lines xs) = ⊥
 Gives files (mapping file) (viewed xs legend) = ⊥
@@ -96,12 +116,14 @@ abbrev pub bytes_in : List Given → List ℕ
 bytes_in [] = []
 bytes_in (bytes xs ∷ given) = xs
 bytes_in (viewed xs legend ∷ given) = xs
+bytes_in (paged xs legend blocks ∷ given) = xs
 bytes_in (lines xs ∷ given) = bytes_in given
 
 abbrev pub lines_in : List Given → List Line
 lines_in [] = []
 lines_in (bytes xs ∷ given) = lines_in given
 lines_in (viewed xs legend ∷ given) = lines_in given
+lines_in (paged xs legend blocks ∷ given) = lines_in given
 lines_in (lines xs ∷ given) = xs
 
 abbrev pub later_bytes_in : List Given → List ℕ
@@ -112,7 +134,15 @@ abbrev pub IsLegendIn : List Given → Legend → Type 0
 IsLegendIn [] legend = ⊥
 IsLegendIn (bytes xs ∷ given) legend = IsLegendIn given legend
 IsLegendIn (viewed xs other ∷ given) legend = legend ≡ other
+IsLegendIn (paged xs other blocks ∷ given) legend = legend ≡ other
 IsLegendIn (lines xs ∷ given) legend = IsLegendIn given legend
+
+abbrev pub AreBlocksIn : List Given → List Block → Type 0
+AreBlocksIn [] blocks = ⊥
+AreBlocksIn (paged xs legend others ∷ given) blocks = blocks ≡ others
+AreBlocksIn (bytes xs ∷ given) blocks = AreBlocksIn given blocks
+AreBlocksIn (viewed xs legend ∷ given) blocks = AreBlocksIn given blocks
+AreBlocksIn (lines xs ∷ given) blocks = AreBlocksIn given blocks
 
 -- ---- what stops
 
@@ -169,6 +199,7 @@ StopsAtScript files before now file (Unnamed other name) = ⊥
 abbrev pub StopsAt : Files → (before now : ℕ) → Ask → Stop → Type 0
 StopsAt files before now (program format file) stop = StopsAtProgram files before now format file stop
 StopsAt files before now (viewing format file name) stop = StopsAtProgram files before now format file stop ⊎ IsUnnamed files format file name stop
+StopsAt files before now (paging format file) stop = StopsAtProgram files before now format file stop
 StopsAt files before now (listing short file) stop = StopsAtProgram files before now (Source short) file stop
 StopsAt files before now (mapping file) stop = StopsAtProgram files before now (Source false) file stop
 StopsAt files before now (hinting file) stop = StopsAtProgram files before now (Source false) file stop

@@ -2,6 +2,7 @@
 pub mod Programs
 pub mod Sources
 pub mod Legends
+pub mod Pages
 pub mod Inputs
 pub mod Asks
 pub mod Orders

@@ -6,7 +6,7 @@ use Rattle.p8_objects.specs.Outcomes.{project}
 use Rattle.p8_objects.specs.Orders.{AreAllRead as FilesAreRead, ReadsInOrder}
 use Rattle.p8_inputs.specs.declared.program.Format.{Format}
 use Rattle.p8_inputs.specs.declared.program.Format.TheVariants.{Source}
-use Rattle.p8_inputs.specs.Asks.{Ask, program, viewing, listing, mapping, hinting, script, history, message, Given, Gives}
+use Rattle.p8_inputs.specs.Asks.{Ask, program, viewing, paging, listing, mapping, hinting, script, history, message, Given, Gives}
 use Rattle.p8_inputs.specs.Sources.{GathersTo}
 
 -- the files of the project of a top file were read, each once, in their order
@@ -22,6 +22,7 @@ IsProgramRead files format file before now = WereRead before now (file ∷ [])
 abbrev pub IsAllRead : Files → Ask → (before now : Log) → Type 0
 IsAllRead files (program format file) before now = IsProgramRead files format file before now
 IsAllRead files (viewing format file name) before now = IsProgramRead files format file before now
+IsAllRead files (paging format file) before now = IsProgramRead files format file before now
 IsAllRead files (listing short file) before now = IsProjectRead files file before now
 IsAllRead files (mapping file) before now = IsProjectRead files file before now
 IsAllRead files (hinting file) before now = IsProjectRead files file before now
@@ -42,6 +43,7 @@ IsProgramBegun files format file before now = MayBeRead file before now
 abbrev pub IsReadSoFar : Files → Ask → (before now : Log) → Type 0
 IsReadSoFar files (program format file) before now = IsProgramBegun files format file before now
 IsReadSoFar files (viewing format file name) before now = IsProgramBegun files format file before now
+IsReadSoFar files (paging format file) before now = IsProgramBegun files format file before now
 IsReadSoFar files (listing short file) before now = ReadsInOrder files file before now
 IsReadSoFar files (mapping file) before now = ReadsInOrder files file before now
 IsReadSoFar files (hinting file) before now = ReadsInOrder files file before now

@@ -1,5 +1,5 @@
 -- Sources on a shelf: what the project of a top file is built to, or why there is no image of it (this project's profile).
-use Rattle.std.specs.Prelude.{ℕ, ◌≡◌, Bool, true, false, List, Option, Some, None, map}
+use Rattle.std.specs.Prelude.{ℕ, ◌≡◌, Bool, true, false, List, Option, Some, None, [], ◌∷◌, ◌++◌, map}
 use Rattle.p8_tree.specs.Projects.{NamedSource}
 use Rattle.p8_tree.specs.declared.faults.Fault.{Fault}
 use Rattle.p8_image.specs.declared.clocks.Clock.{Clock}
@@ -17,6 +17,7 @@ use Rattle.p8_build.specs.declared.sizes.Size.{Size}
 use Rattle.p8_map.specs.Projects.{IsMapOf}
 use Rattle.p8_hint.specs.Projects.{IsHintsOf}
 use Rattle.p8_legend.specs.Projects.{IsLegendOf}
+use Rattle.p8_page.specs.Page.{Block, map_block, source_blocks}
 use Rattle.p8_opt.specs.Shorts.{IsShortBuilt}
 use Rattle.p8_image.specs.Listing.{listing_of}
 
@@ -61,6 +62,20 @@ abbrev pub IsProjectLegend : Files → (top : List ℕ) → Legend → Type 0
 IsProjectLegend files top legend =
     (sources : List NamedSource) × GathersTo files top (project sources) × (texts : List (List ℕ)) × AreSources files sources texts × IsLegendOf texts sources legend
 
+-- the blocks that a page has of files with these bytes, in their order
+abbrev pub file_blocks : List NamedSource → (texts : List (List ℕ)) → List Block
+file_blocks (source ∷ sources) (text ∷ texts) = source_blocks source.name text ++ file_blocks sources texts
+file_blocks _ _ = []
+
+-- those of a project whose files have these bytes: of its map, and of its files
+abbrev pub AreBlocksOf : (texts : List (List ℕ)) → List NamedSource → List Block → Type 0
+AreBlocksOf texts sources blocks = (map : List ℕ) × IsMapOf texts sources map × (blocks ≡ map_block map ++ file_blocks sources texts)
+
+-- those of the project of a top file
+abbrev pub AreProjectBlocks : Files → (top : List ℕ) → List Block → Type 0
+AreProjectBlocks files top blocks =
+    (sources : List NamedSource) × GathersTo files top (project sources) × (texts : List (List ℕ)) × AreSources files sources texts × AreBlocksOf texts sources blocks
+
 -- The project of a top file is refused: this file of it, with the bytes that it was read with, for this; while it is gathered, or else when it is
 -- built, and then what is too large has this size.
 pub data IsRefusedFrom (files : Files) (top : List ℕ) (file : ReadFile) (f : Fault) (size : Option Size) : Type 0 where
@@ -76,6 +91,7 @@ pub record HasOneOutcome (files : List ℕ → Option (List ℕ)) : Type 0 where
   pub one_map : (top a b : List ℕ) → IsMapFrom (Some files) top a → IsMapFrom (Some files) top b → a ≡ b
   pub one_hints : (top a b : List ℕ) → IsHintsFrom (Some files) top a → IsHintsFrom (Some files) top b → a ≡ b
   pub one_legend : (top : List ℕ) (a b : Legend) → IsProjectLegend (Some files) top a → IsProjectLegend (Some files) top b → a ≡ b
+  pub one_blocks : (top : List ℕ) (a b : List Block) → AreProjectBlocks (Some files) top a → AreProjectBlocks (Some files) top b → a ≡ b
   pub not_missing : (before now : ℕ) (short : Bool) (top name : List ℕ) (mention : Option Mention) (sources : List NamedSource) (clock : Clock) (objects : List ObjectPart)
       → IsBuiltFrom (Some files) short top sources clock objects → ¬ Gathers (shelved (Some files) before now) top (missing name mention)
   pub not_refused : (short : Bool) (top : List ℕ) (file : ReadFile) (f : Fault) (size : Option Size) (sources : List NamedSource) (clock : Clock) (objects : List ObjectPart)

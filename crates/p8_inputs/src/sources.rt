@@ -1,6 +1,6 @@
 // What a source is built to.
-ghost use Rattle.std.specs.Prelude.{◌≡◌, ◌≤◌, ◌∷◌, [], ℕ, Bool, false, List, Err, length, map, IfOk, IfErr};
-ghost use Rattle.p8_tree.specs.Views.{named_sources_of};
+ghost use Rattle.std.specs.Prelude.{◌≡◌, ◌≤◌, ◌∷◌, ◌++◌, [], ℕ, Bool, false, List, Err, length, map, IfOk, IfErr, OnOk};
+ghost use Rattle.p8_tree.specs.Views.{named_source_of, named_sources_of};
 ghost use Rattle.p8_io.specs.Shelves.{Files};
 ghost use Rattle.p8_objects.specs.Orders.{AreAllRead as FilesAreRead, ReadsInOrder};
 ghost use Rattle.p8_objects.specs.Outcomes.{shelved, Answers};
@@ -14,8 +14,9 @@ ghost use Rattle.p8_legend.specs.Projects.{IsLegendOf};
 ghost use Rattle.p8_inputs.specs.Asks.{StopsAtProgram, Stops, program as program_ask, listing as listing_ask, mapping as mapping_ask, hinting as hinting_ask};
 ghost use Rattle.p8_inputs.specs.Gathered.{IsProject, IsWhole, IsImageBuiltBy, AreBuiltBy, IsListingOf, StopsAtBuilding};
 ghost use Rattle.p8_inputs.specs.Orders.{IsProjectRead, AreAllRead, AreReadSoFar};
+ghost use Rattle.p8_page.specs.Page.{Block, blocks_text, map_block};
 ghost use Rattle.p8_inputs.specs.Runs.{HasProperTrees};
-ghost use Rattle.p8_inputs.specs.Sources.{IsImageFrom, IsListingFrom, IsMapFrom, IsHintsFrom, IsProjectLegend};
+ghost use Rattle.p8_inputs.specs.Sources.{IsImageFrom, IsListingFrom, IsMapFrom, IsHintsFrom, IsProjectLegend, file_blocks, AreBlocksOf, AreProjectBlocks};
 ghost use Rattle.p8_inputs.specs.declared.program.Format.TheVariants.{Source};
 
 use crate::stop::Stop;
@@ -24,10 +25,12 @@ use p8_hint::project_hints;
 use p8_image::{Image, listing};
 use p8_io::Shelf;
 use p8_legend::{Legend, legend_of_accepted};
-use p8_map::project_map;
+use p8_map::{map_of_accepted, project_map};
 use p8_objects::{GatherFault, Gathered, discard, gather};
 use p8_opt::{build_short, build_short_parts};
+use p8_page::{push_map, push_source};
 use p8_tree::{Fault, List, Project, ProjectFile, Text};
+use p8_words::NoMemory;
 use std::alloc::{AllocError, Global};
 
 /// An image with its legend.
@@ -35,6 +38,14 @@ use std::alloc::{AllocError, Global};
 pub(crate) struct Explained {
     pub(crate) image: Image,
     pub(crate) legend: Legend,
+}
+
+/// An image with its legend, and with the blocks that a page has of its project.
+#[derive(Drop)]
+pub(crate) struct PagedImage {
+    pub(crate) image: Image,
+    pub(crate) legend: Legend,
+    pub(crate) project: Vec<u8>,
 }
 
 /// The project of a top file, with the bytes of its files.
@@ -212,6 +223,59 @@ fn explained_project(alloc: Global, gathered: &Gathered) -> Result<Explained, St
     Ok(Explained { image, legend })
 }
 
+/// Appends the blocks of files, each with its name and its bytes.
+fn push_files(out: &mut Vec<u8>, files: &[ProjectFile], sources: &[Text]) -> Result<(), NoMemory>
+    requires { length sources.now ≡ length files.now }
+    ensures { OnOk result (out.new.items ≡ out.old.items ++ blocks_text (file_blocks (map named_source_of files.now) sources.now)) }
+{
+    for i in 0..files.len() {
+        push_source(out, files[i].name.as_slice(), sources[i].as_slice())?;
+    }
+    Ok(())
+}
+
+/// The blocks that a page has of a project: of its map, which is this text, and of its files.
+fn blocks_of(
+    alloc: Global,
+    text: &[u8],
+    files: &[ProjectFile],
+    sources: &[Text],
+) -> Result<Vec<u8>, NoMemory>
+    requires { length sources.now ≡ length files.now }
+    ensures { IfOk result (λ out. out.items ≡ blocks_text (map_block text.now ++ file_blocks (map named_source_of files.now) sources.now)) }
+{
+    let mut out = Vec::new(alloc);
+    push_map(&mut out, text)?;
+    push_files(&mut out, files, sources)?;
+    Ok(out)
+}
+
+/// The image of a project with its legend, and with the blocks that a page has of it.
+fn paged_project(alloc: Global, gathered: &Gathered) -> Result<PagedImage, Stop>
+    requires whole { IsWhole (named_sources_of gathered.now.project) }
+    requires beside { length gathered.now.sources ≡ length (named_sources_of gathered.now.project) }
+    ensures image { IfOk result (λ read. IsImageBuiltBy false (named_sources_of gathered.now.project) read.image) }
+    ensures legend { IfOk result (λ read. IsLegendOf gathered.now.sources (named_sources_of gathered.now.project) read.legend) }
+    ensures blocks { IfOk result (λ read. (blocks : List Block) × AreBlocksOf gathered.now.sources (named_sources_of gathered.now.project) blocks × (read.project.items ≡ blocks_text blocks)) }
+    ensures stopped { IfErr result (StopsAtBuilding (named_sources_of gathered.now.project) gathered.now.sources) }
+{
+    let accepted = match accept(alloc, &gathered.project) {
+        Ok(accepted) => accepted,
+        Err(fault) => return Err(stop_of_building(alloc, gathered, fault)),
+    };
+    let files = gathered.project.files.as_slice();
+    let sources = gathered.sources.as_slice();
+    let legend = legend_of_accepted(alloc, files, sources, &accepted)?;
+    let text = map_of_accepted(alloc, files, sources, &accepted)?;
+    let project = blocks_of(alloc, &text, files, sources)?;
+    let image = accepted.into_image();
+    Ok(PagedImage {
+        image,
+        legend,
+        project,
+    })
+}
+
 /// The image of the project of a top file.
 pub(crate) fn image_in<S: Shelf>(
     alloc: Global,
@@ -250,6 +314,28 @@ pub(crate) fn explained_in<S: Shelf>(
 {
     let gathered = project_in(alloc, file, shelf)?;
     let read = explained_project(alloc, &gathered);
+    discard(gathered);
+    read
+}
+
+/// The image of the project of a top file with its legend, and with the blocks that a page has of it.
+pub(crate) fn paged_in<S: Shelf>(
+    alloc: Global,
+    file: &str,
+    shelf: &mut S,
+) -> Result<PagedImage, Stop>
+    ensures image { IfOk result (λ read. HasProperTrees (S.files shelf.old) (Source false) file.now read.image.file) }
+    ensures memory { IfOk result (λ read. read.image ≡ image_of_file read.image.file) }
+    ensures legend { IfOk result (λ read. IsProjectLegend (S.files shelf.old) file.now read.legend) }
+    ensures blocks { IfOk result (λ read. (blocks : List Block) × AreProjectBlocks (S.files shelf.old) file.now blocks × (read.project.items ≡ blocks_text blocks)) }
+    ensures stopped { IfErr result (StopsAtProgram (S.files shelf.old) (S.faults shelf.old) (S.faults shelf.new) (Source false) file.now) }
+    ensures all_read { IfOk result (λ _. IsProjectRead (S.files shelf.old) file.now (S.log shelf.old) (S.log shelf.new)) }
+    ensures in_order { ReadsInOrder (S.files shelf.old) file.now (S.log shelf.old) (S.log shelf.new) }
+    ensures later { S.faults shelf.old ≤ S.faults shelf.new }
+    ensures kept { S.files shelf.new ≡ S.files shelf.old }
+{
+    let gathered = project_in(alloc, file, shelf)?;
+    let read = paged_project(alloc, &gathered);
     discard(gathered);
     read
 }

@@ -36,12 +36,13 @@ struct Told {
 }
 
 /// A legend that tells nothing.
-fn no_legend(alloc: Global) -> Legend
+pub(crate) fn no_legend(alloc: Global) -> Legend
     ensures { TellsNothing result }
 {
     Legend {
         names: Ranges::new(alloc),
         places: Ranges::new(alloc),
+        locals: Ranges::new(alloc),
     }
 }
 
