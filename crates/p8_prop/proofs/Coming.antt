@@ -24,9 +24,11 @@ use Rattle.p8_serial.specs.Typed.{typed_text}
 use Rattle.p8_inputs.specs.declared.inputs.Inputs.{Inputs}
 use Rattle.p8_inputs.specs.declared.inputs.Recorded.{Recorded}
 use Rattle.p8_inputs.specs.declared.program.Format.{Format}
-use Rattle.p8_inputs.specs.Asks.{most_sent, Given, bytes, viewed, lines, Give, history, script_ask, check_asks, bytes_in, lines_in, later_bytes_in}
+use Rattle.p8_inputs.specs.Asks.{most_sent, Given, bytes, viewed, paged, lines, Give, history, script_ask, check_asks, bytes_in, lines_in, later_bytes_in}
 use Rattle.p8_inputs.specs.Inputs.{IsProgram, IsScriptFor}
 use Rattle.p8_inputs.specs.Legends.{HasName, IsLegendFrom}
+use Rattle.p8_inputs.specs.Pages.{AreBlocksFrom}
+use Rattle.p8_page.specs.Page.{Block}
 use Rattle.p8_inputs.specs.Programs.{format_for, world_of, memory_by, first_by, boot_by, format_of, other_file}
 use Rattle.p8_inputs.specs.Runs.{Begins, HasProperTrees}
 use Rattle.p8_inputs.specs.Sources.{IsImageFrom, IsListingFrom, IsMapFrom, IsHintsFrom}
@@ -35,11 +37,11 @@ use Rattle.p8_commands.specs.Commands.{Command, Dump, Running, BuildSource, List
 use Rattle.p8_prop.specs.declared.work.Answer.{Answer}
 use Rattle.p8_prop.specs.declared.work.Answer.TheVariants.{Text, Bad}
 use Rattle.p8_prop.specs.declared.work.Work.{Work}
-use Rattle.p8_prop.specs.declared.work.Work.TheVariants.{Done, Run, View}
+use Rattle.p8_prop.specs.declared.work.Work.TheVariants.{Done, Run, View, Page}
 use Rattle.p8_prop.specs.declared.view.Viewing.{Viewing}
 use Rattle.p8_prop.specs.Headline.{IsToldBySource, IsHistoryOf, IsBuild}
-use Rattle.p8_prop.specs.Texts.{accepted_line, dumped_range, name_in, HasVerdict, IsViewed}
-use Rattle.p8_prop.specs.Works.{IsAnswerTo, IsCheckedBy, IsRunWork, IsText, IsTextOfRun, IsTextOfView, IsViewWork, IsWork}
+use Rattle.p8_prop.specs.Texts.{accepted_line, dumped_range, name_in, HasVerdict, IsViewed, IsPaged}
+use Rattle.p8_prop.specs.Works.{IsAnswerTo, IsCheckedBy, IsRunWork, IsText, IsTextOfRun, IsTextOfView, IsViewWork, IsTextOfPage, IsPageWork, IsWork}
 
 -- an image and a listing are what is given
 pub built : (files : Files) (short : Bool) (file text : List ℕ) → IsImageFrom files short file text → IsBuild files short file text → IsText files (BuildSource short file) text
@@ -120,6 +122,13 @@ module _ (told : RunsAreTold) (files : Files) (format : Format) (run : Running) 
     (begun, is.0, legend, history-of is.0 is.1, from, is.2),
   )
 
+  pub page-told : (from to : ℕ) (legend : Legend) (blocks : List Block) → IsLegendFrom files format run.file legend → AreBlocksFrom files format run.file blocks
+      → (text : List ℕ) → IsPaged begun run.file from to legend blocks text → IsTextOfPage files format run from to text
+  page-told from to legend blocks of_legend of_blocks text is = (
+    (paged begins.0 legend blocks ∷ scripted.0, ((begins.1, of_legend, of_blocks), scripted.1), (legend, refl, blocks, refl, subst (λ (w : World). IsPaged w run.file from to legend blocks text) given-world is)),
+    (begun, is.0, legend, blocks, history-of is.0 is.1, of_legend, of_blocks, is.2),
+  )
+
 -- ---- a made program
 
 pub made-told : (files : Files) (alone : Bool) (seed : ℕ) (w : World) → w ≡ made_world seed → (past : List Turn) → Ended asks w past → IsWhole (Summary seed) w past → IsText files (Make alone seed) (told_by (Summary seed) w past)
@@ -169,6 +178,7 @@ pub run-work : (files : Files) (command : Command) (format : Format) (run : Runn
 run-work files command format run finish is (Done answer) work = absurd work
 run-work files command format run finish is (Run start other) work = (work.0, λ past ended whole. is _ (work.1 past ended whole))
 run-work files command format run finish is (View start view) work = absurd work
+run-work files command format run finish is (Page start page) work = absurd work
 
 -- and so is a view
 pub view-work : (files : Files) (command : Command) (format : Format) (run : Running) (options : ViewOptions) (dump : Option Dump) → ((text : List ℕ) → IsTextOfView files format run options dump text → IsText files command text)
@@ -176,3 +186,12 @@ pub view-work : (files : Files) (command : Command) (format : Format) (run : Run
 view-work files command format run options dump is (Done answer) work = absurd work
 view-work files command format run options dump is (Run start finish) work = absurd work
 view-work files command format run options dump is (View start view) work = (work.0, λ text seen. is text (work.1 text seen))
+view-work files command format run options dump is (Page start page) work = absurd work
+
+-- and a page
+pub page-work : (files : Files) (command : Command) (format : Format) (run : Running) (from to : ℕ) → ((text : List ℕ) → IsTextOfPage files format run from to text → IsText files command text)
+    → (work : Work) → IsPageWork files format run from to work → IsWork files command work
+page-work files command format run from to is (Done answer) work = absurd work
+page-work files command format run from to is (Run start finish) work = absurd work
+page-work files command format run from to is (View start view) work = absurd work
+page-work files command format run from to is (Page start page) work = (work.0, (work.1.0, work.1.1, λ text seen. is text (work.1.2 text seen)))

@@ -1,5 +1,5 @@
 -- Where the shelf tells its files, there is one verdict.
-use Rattle.std.proofs.Common.{◌≡◌, ◌∙◌, ap, sym, subst, refl, Bool, true, false, if◌then◌else◌, ℕ, inl, inr, List, [], ◌∷◌, Option, Some, None, reverse}
+use Rattle.std.proofs.Common.{◌≡◌, ◌∙◌, ap, sym, subst, refl, Bool, true, false, if◌then◌else◌, ℕ, inl, inr, List, [], ◌∷◌, ◌++◌, Option, Some, None, reverse}
 use Rattle.std.proofs.lemmas.List.{reverse-reverse}
 use Rattle.p8_access.specs.declared.memory.Boot.{Boot}
 use Rattle.p8_access.specs.declared.order.Turn.{Turn}
@@ -8,6 +8,8 @@ use Rattle.p8_access.proofs.OneHistory.{one-history}
 use Rattle.p8_cog.specs.Lives.{asks}
 use Rattle.p8_cog.specs.Laws.{one-asked}
 use Rattle.p8_legend.specs.declared.legend.Legend.{Legend}
+use Rattle.p8_pins.specs.Levels.{pins_when, end_of}
+use Rattle.p8_page.specs.Page.{Block, changes_by, page_of, run_blocks}
 use Rattle.p8_verify.specs.declared.verdicts.Cause.{Cause}
 use Rattle.p8_verify.specs.declared.verdicts.Cause.TheVariants.{Form}
 use Rattle.p8_verify.specs.declared.verdicts.Verdict as checking
@@ -21,12 +23,13 @@ use Rattle.p8_io.specs.Counts.{Rose}
 use Rattle.p8_io.specs.Shelves.{Files}
 use Rattle.p8_inputs.specs.declared.stop.Stop.{Stop}
 use Rattle.p8_inputs.specs.declared.stop.Stop.TheVariants as stop
-use Rattle.p8_inputs.specs.Asks.{Given, bytes, viewed, lines, HasOneReading, IsLegendIn}
+use Rattle.p8_inputs.specs.Asks.{Given, bytes, viewed, paged, lines, bytes_in, lines_in, HasOneReading, IsLegendIn, AreBlocksIn}
+use Rattle.p8_inputs.specs.Programs.{format_for, world_of}
 use Rattle.p8_inputs.proofs.Deciding.{unread-rose}
-use Rattle.p8_commands.specs.Commands.{Command, explains, BuildSource, ListSource, MapSource, HintSource, ExplainFile, ExplainNumber, RunMemory, RunProgram, Save, Check, Serial as ReadPin, TypeFile, Wave as ShowWave, Plot as DrawPins, ViewRun, Convert, Make, Help}
+use Rattle.p8_commands.specs.Commands.{Command, explains, BuildSource, ListSource, MapSource, HintSource, ExplainFile, ExplainNumber, RunMemory, RunProgram, Save, Check, Serial as ReadPin, TypeFile, Wave as ShowWave, Plot as DrawPins, ViewRun, PageRun, Convert, Make, Help}
 use Rattle.p8_view.specs.declared.turns.ViewOptions.{ViewOptions}
 use Rattle.p8_view.specs.Ending.{view_of}
-use Rattle.p8_prop.specs.Texts.{selection_of, picture_of, options_of, dumped_range, asks_of, IsToldOf, IsViewOf, IsViewed, IsTextOf, IsAskedFor, IsBadBy, IsBadHistory}
+use Rattle.p8_prop.specs.Texts.{selection_of, picture_of, options_of, dumped_range, asks_of, IsToldOf, IsViewOf, IsViewed, IsPageOf, IsPaged, IsTextOf, IsAskedFor, IsBadBy, IsBadHistory}
 use Rattle.p8_prop.proofs.OneCount.{asked-one, counters-one}
 use Rattle.p8_prop.specs.Verdicts.{Outside, Verdict, unsaid, stopped, unexplained, bad, written, unwritten, explanation, explained_by, StopsCommand, IsVerdict, IsCertain, IsForOutput, HasOneVerdict, IsComplete}
 
@@ -80,11 +83,28 @@ viewed-one w options legend dump a b p q =
     let past : p.0 ≡ q.0 = one-history asks w one-asked p.0 q.0 p.1 q.1 in
     view-one w q.0 options legend dump a b (subst (λ (past : List Turn). IsViewOf w past options legend dump a) past p.2) q.2
 
+-- and one page
+paged-one : (w : World) (file : List ℕ) (from to : ℕ) (legend : Legend) (blocks : List Block) (a b : List ℕ)
+    → IsPaged w file from to legend blocks a → IsPaged w file from to legend blocks b → a ≡ b
+paged-one w file from to legend blocks a b p q =
+    let past : p.0 ≡ q.0 = one-history asks w one-asked p.0 q.0 p.1 q.1 in
+    let is : IsPageOf w q.0 file from to legend blocks a = subst (λ (past : List Turn). IsPageOf w past file from to legend blocks a) past p.2 in
+    let view : is.0 ≡ q.2.0 = view-one w q.0 (options_of false false None from to) legend None is.0 q.2.0 is.1 q.2.1 in
+    is.2 ∙ ap (λ (text : List ℕ). page_of (run_blocks file from to text (changes_by (pins_when w q.0) (end_of w q.0)) ++ blocks)) view ∙ sym q.2.2
+
 legend-one : (given : List Given) (a b : Legend) → IsLegendIn given a → IsLegendIn given b → a ≡ b
 legend-one [] a b p q = absurd p
 legend-one (bytes xs ∷ given) a b p q = legend-one given a b p q
 legend-one (viewed xs legend ∷ given) a b p q = p ∙ sym q
+legend-one (paged xs legend blocks ∷ given) a b p q = p ∙ sym q
 legend-one (lines xs ∷ given) a b p q = legend-one given a b p q
+
+blocks-one : (given : List Given) (a b : List Block) → AreBlocksIn given a → AreBlocksIn given b → a ≡ b
+blocks-one [] a b p q = absurd p
+blocks-one (bytes xs ∷ given) a b p q = blocks-one given a b p q
+blocks-one (viewed xs legend ∷ given) a b p q = blocks-one given a b p q
+blocks-one (paged xs legend blocks ∷ given) a b p q = p ∙ sym q
+blocks-one (lines xs ∷ given) a b p q = blocks-one given a b p q
 
 module _ (one_check : HasOneCheck) where
   text-one : (command : Command) (given : List Given) (a b : List ℕ) → IsTextOf command given a → IsTextOf command given b → a ≡ b
@@ -102,11 +122,17 @@ module _ (one_check : HasOneCheck) where
       p.2 ∙ ap good_line (ap number-of same) ∙ sym q.2
   text-one (ReadPin raw run pin bits) given a b p q = told-one _ (Serial pin bits) a b p q
   text-one (ShowWave alone raw all pins_only run) given a b p q = told-one _ (Wave (selection_of all pins_only)) a b p q
-  text-one (DrawPins alone raw ascii run pins from to) given a b p q = told-one _ (Plot (picture_of pins from to ascii)) a b p q
+  text-one (DrawPins alone raw ascii run pins from to columns) given a b p q = told-one _ (Plot (picture_of pins from to columns ascii)) a b p q
   text-one (ViewRun raw pins_only quiet run cog from to dump) given a b p q =
       let options = options_of pins_only quiet cog from to in
       let legend : p.0 ≡ q.0 = legend-one given p.0 q.0 p.1 q.1 in
       viewed-one _ options q.0 (dumped_range q.0 dump) a b (subst (λ (l : Legend). IsViewed _ options l (dumped_range l dump) a) legend p.2) q.2
+  text-one (PageRun raw run from to) given a b p q =
+      let w = world_of (format_for raw run.file) (bytes_in given) (lines_in given) run.clocks run.turns in
+      let legend : p.0 ≡ q.0 = legend-one given p.0 q.0 p.1 q.1 in
+      let blocks : p.2 ≡ q.2 = blocks-one given p.2 q.2 p.3 q.3 in
+      paged-one w run.file from to q.0 q.2 a b
+      (subst (λ (l : Legend). IsPaged w run.file from to l q.2 a) legend (subst (λ (bs : List Block). IsPaged w run.file from to p.0 bs a) blocks p.4)) q.4
   text-one (TypeFile file pin bits start) given a b p q = p ∙ sym q
   text-one (Convert kind file) given a b p q = p ∙ sym q
   text-one (Make alone seed) given a b p q = told-one _ (Summary seed) a b p q

@@ -5,7 +5,7 @@ use Rattle.p8_commands.specs.Commands.{Command}
 use Rattle.p8_prop.specs.declared.work.Answer.{Answer}
 use Rattle.p8_prop.specs.declared.work.Answer.TheVariants.{Text, Bad}
 use Rattle.p8_prop.specs.declared.work.Work.{Work}
-use Rattle.p8_prop.specs.declared.work.Work.TheVariants.{Done, Run, View}
+use Rattle.p8_prop.specs.declared.work.Work.TheVariants.{Done, Run, View, Page}
 use Rattle.p8_prop.specs.Works.{IsAnswerTo, IsText, IsWork}
 use Rattle.p8_prop.specs.Answers.{CanBeDone, IsDone}
 
@@ -13,6 +13,7 @@ pub can-be-done : (files : Files) (command : Command) (work : Work) → IsWork f
 can-be-done files command (Done answer) work = tt
 can-be-done files command (Run start finish) work = work.0
 can-be-done files command (View start view) work = work.0
+can-be-done files command (Page start page) work = work.0
 
 pub answer-comes : (files : Files) (command : Command) (work : Work) (answer : Answer) → IsWork files command work → IsDone work answer → IsAnswerTo files command answer
 answer-comes files command (Done answer) other work is = subst (IsAnswerTo files command) (sym is) work
@@ -20,3 +21,5 @@ answer-comes files command (Run start finish) (Text text) work is = subst (IsTex
 answer-comes files command (Run start finish) (Bad history turn cause) work is = absurd is
 answer-comes files command (View start view) (Text text) work is = work.1 text.items is
 answer-comes files command (View start view) (Bad history turn cause) work is = absurd is
+answer-comes files command (Page start page) (Text text) work is = work.1.2 text.items (is work.1.0 work.1.1)
+answer-comes files command (Page start page) (Bad history turn cause) work is = absurd is

@@ -14,7 +14,7 @@ use Rattle.p8_inputs.specs.Inputs.{IsProgram}
 use Rattle.p8_inputs.specs.declared.stop.Stop.{Stop}
 use Rattle.p8_inputs.specs.declared.stop.Stop.TheVariants as stop
 use Rattle.p8_commands.specs.declared.table.Subcommand.TheVariants as named
-use Rattle.p8_commands.specs.Commands.{Command, Running, BuildSource, ListSource, MapSource, HintSource, ExplainFile, ExplainNumber, RunMemory, RunProgram, Save, Check, Serial as ReadPin, TypeFile, Wave as ShowWave, Plot as DrawPins, ViewRun, Convert, Make, Help, has_flag, said_to, command_of, alone_of}
+use Rattle.p8_commands.specs.Commands.{Command, Running, BuildSource, ListSource, MapSource, HintSource, ExplainFile, ExplainNumber, RunMemory, RunProgram, Save, Check, Serial as ReadPin, TypeFile, Wave as ShowWave, Plot as DrawPins, ViewRun, PageRun, Convert, Make, Help, has_flag, said_to, command_of, alone_of}
 use Rattle.p8_commands.specs.Table.{run_entry}
 use Rattle.p8_prop.specs.declared.status.Status.{Status}
 use Rattle.p8_prop.specs.declared.status.Status.TheVariants as status
@@ -83,9 +83,10 @@ alone-some (Some (ReadPin raw run pin bits)) is e = e
 alone-some (Some (TypeFile file pin bits start)) is e = e
 alone-some (Some (ShowWave false raw all pins_only run)) is e = absurd cc
 alone-some (Some (ShowWave true raw all pins_only run)) is e = e
-alone-some (Some (DrawPins false raw ascii run pins from to)) is e = absurd cc
-alone-some (Some (DrawPins true raw ascii run pins from to)) is e = e
+alone-some (Some (DrawPins false raw ascii run pins from to columns)) is e = absurd cc
+alone-some (Some (DrawPins true raw ascii run pins from to columns)) is e = e
 alone-some (Some (ViewRun raw pins_only quiet run cog from to dump)) is e = e
+alone-some (Some (PageRun raw run from to)) is e = e
 alone-some (Some (Convert kind file)) is e = e
 alone-some (Some (Make false seed)) is e = absurd cc
 alone-some (Some (Make true seed)) is e = e

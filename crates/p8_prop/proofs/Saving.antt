@@ -14,7 +14,7 @@ use Rattle.p8_verify.specs.Verdicts as checks
 use Rattle.p8_verify.specs.Verdicts.{IsEndedFile}
 use Rattle.p8_finish.specs.Checks.{good_line}
 use Rattle.p8_inputs.specs.declared.program.Format.{Format}
-use Rattle.p8_inputs.specs.Asks.{Given, bytes, viewed, lines, Give, history, script_ask, bytes_in, lines_in}
+use Rattle.p8_inputs.specs.Asks.{Given, bytes, viewed, paged, lines, Give, history, script_ask, bytes_in, lines_in}
 use Rattle.p8_inputs.specs.Programs.{format_for, world_of, boot_by}
 use Rattle.p8_commands.specs.Commands.{Running, Save, Check}
 use Rattle.p8_prop.specs.declared.status.Status.{Status}
@@ -40,6 +40,7 @@ behind files (Some file) (lines script ∷ []) recorded xs give read = (lines sc
 behind files (Some file) (lines script ∷ next ∷ given) recorded xs give read = absurd give.1
 behind files (Some file) (bytes ys ∷ given) recorded xs give read = absurd give.0
 behind files (Some file) (viewed ys legend ∷ given) recorded xs give read = absurd give.0
+behind files (Some file) (paged ys legend blocks ∷ given) recorded xs give read = absurd give.0
 
 -- the file of an ended history is that of the boot and script of its world
 ended-file : (format : Format) (program : List ℕ) (script : List Line) (clocks turns : ℕ) (w : World) (past : List Turn) (text : List ℕ)

@@ -10,9 +10,10 @@ use Rattle.p8_commands.specs.Commands.{Command}
 use Rattle.p8_prop.specs.declared.work.Answer.{Answer}
 use Rattle.p8_prop.specs.declared.work.Answer.TheVariants.{Text, Bad}
 use Rattle.p8_prop.specs.declared.work.Work.{Work}
-use Rattle.p8_prop.specs.declared.work.Work.TheVariants.{Done, Run, View}
-use Rattle.p8_prop.specs.Texts.{IsViewed}
-use Rattle.p8_prop.specs.Works.{IsRunnable, IsViewable, IsMadeOf, world_in}
+use Rattle.p8_prop.specs.declared.work.Work.TheVariants.{Done, Run, View, Page}
+use Rattle.p8_page.specs.Page.{Block, blocks_text}
+use Rattle.p8_prop.specs.Texts.{IsViewed, IsPaged}
+use Rattle.p8_prop.specs.Works.{IsRunnable, IsViewable, IsPageable, IsMadeOf, world_in}
 use Rattle.p8_prop.specs.declared.status.Status.{Status}
 use Rattle.p8_prop.specs.Verdicts.{SinkSeen, Verdict, stopped, unexplained, bad, written, unwritten, explained_by, status_of, IsOut, IsTold}
 
@@ -21,6 +22,7 @@ abbrev pub CanBeDone : Work → Type 0
 CanBeDone (Done answer) = Unit {0}
 CanBeDone (Run start finish) = IsRunnable start finish
 CanBeDone (View start view) = IsViewable start view
+CanBeDone (Page start page) = IsPageable start page
 
 -- this comes of the work
 abbrev pub IsDone : Work → Answer → Type 0
@@ -29,6 +31,9 @@ IsDone (Run start finish) (Text text) = IsMadeOf start finish text.items
 IsDone (Run start finish) (Bad history turn cause) = ⊥
 IsDone (View start view) (Text text) = IsViewed (world_in start) view.options view.legend view.dump text.items
 IsDone (View start view) (Bad history turn cause) = ⊥
+IsDone (Page start page) (Text text) =
+    (blocks : List Block) → page.project.items ≡ blocks_text blocks → IsPaged (world_in start) page.file.items page.from page.to page.legend blocks text.items
+IsDone (Page start page) (Bad history turn cause) = ⊥
 
 -- the verdict on what came of a command: its text may not be written
 abbrev pub IsFrom : Answer → SinkSeen → Verdict → Type 0

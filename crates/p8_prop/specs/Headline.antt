@@ -21,13 +21,15 @@ use Rattle.p8_inputs.specs.declared.program.Format.{Format}
 use Rattle.p8_inputs.specs.declared.program.Format.TheVariants.{Memory, Source}
 use Rattle.p8_inputs.specs.Inputs.{IsProgram, IsScriptFor}
 use Rattle.p8_inputs.specs.Legends.{IsLegendFrom}
+use Rattle.p8_inputs.specs.Pages.{AreBlocksFrom}
+use Rattle.p8_page.specs.Page.{Block}
 use Rattle.p8_inputs.specs.Programs.{format_for, format_named, world_of}
 use Rattle.p8_inputs.specs.Sources.{IsBuiltBy, IsBuiltFrom}
-use Rattle.p8_commands.specs.Commands.{Command, Dump, Running, BuildSource, ListSource, MapSource, HintSource, ExplainFile, ExplainNumber, RunMemory, RunProgram, Save, Check, Serial as ReadPin, TypeFile, Wave as ShowWave, Plot as DrawPins, ViewRun, Convert, Make, Help}
+use Rattle.p8_commands.specs.Commands.{Command, Dump, Running, BuildSource, ListSource, MapSource, HintSource, ExplainFile, ExplainNumber, RunMemory, RunProgram, Save, Check, Serial as ReadPin, TypeFile, Wave as ShowWave, Plot as DrawPins, ViewRun, PageRun, Convert, Make, Help}
 use Rattle.p8_finish.specs.declared.finish.Finish.{Finish}
 use Rattle.p8_finish.specs.declared.finish.Finish.TheVariants.{Trace, Saved, Serial, Wave, Plot}
 use Rattle.p8_finish.specs.Finishes.{told_by, IsWhole}
-use Rattle.p8_prop.specs.Texts.{selection_of, picture_of, options_of, dumped_range, IsViewOf}
+use Rattle.p8_prop.specs.Texts.{selection_of, picture_of, options_of, dumped_range, IsViewOf, IsPageOf}
 
 -- the one history of a world: it has ended, its keys rise, and no other one has ended
 pub record IsOneHistory (w : World) (past : List Turn) : Type 0 where
@@ -75,6 +77,12 @@ IsView files format run options dump text =
     (w : World) × (past : List Turn) × (legend : Legend) × IsHistoryOf files format run w past × IsLegendFrom files format run.file legend
     × IsViewOf w past options legend (dumped_range legend dump) text
 
+-- this text is the page of it, by the legend and the blocks of what is run
+abbrev pub IsPage : Files → Format → Running → (from to : ℕ) → (text : List ℕ) → Type 0
+IsPage files format run from to text =
+    (w : World) × (past : List Turn) × (legend : Legend) × (blocks : List Block) × IsHistoryOf files format run w past
+    × IsLegendFrom files format run.file legend × AreBlocksFrom files format run.file blocks × IsPageOf w past run.file from to legend blocks text
+
 -- this is the image of a source's project, and the memory that it begins with keeps the meaning of the source
 pub record IsBuild (files : Files) (short : Bool) (file text : List ℕ) : Type 0 where
   pub sources : List NamedSource
@@ -98,9 +106,10 @@ IsHeadline files (Save raw run) text = IsRun files (format_for raw run.file) run
 IsHeadline files (Check raw file history script) text = Unit {0}
 IsHeadline files (ReadPin raw run pin bits) text = IsRun files (format_for raw run.file) run (Serial pin bits) text
 IsHeadline files (ShowWave alone raw all pins_only run) text = IsRun files (format_for raw run.file) run (Wave (selection_of all pins_only)) text
-IsHeadline files (DrawPins alone raw ascii run pins from to) text = IsRun files (format_for raw run.file) run (Plot (picture_of pins from to ascii)) text
+IsHeadline files (DrawPins alone raw ascii run pins from to columns) text = IsRun files (format_for raw run.file) run (Plot (picture_of pins from to columns ascii)) text
 IsHeadline files (ViewRun raw pins_only quiet run cog from to dump) text =
     IsView files (format_for raw run.file) run (options_of pins_only quiet cog from to) dump text
+IsHeadline files (PageRun raw run from to) text = IsPage files (format_for raw run.file) run from to text
 IsHeadline files (TypeFile file pin bits start) text = Unit {0}
 IsHeadline files (Convert kind file) text = Unit {0}
 IsHeadline files (Make alone seed) text = Unit {0}

@@ -23,21 +23,23 @@ use Rattle.p8_wave.specs.declared.view.View.{View}
 use Rattle.p8_serial.specs.Typed.{typed_text}
 use Rattle.p8_view.specs.declared.turns.ViewOptions.{ViewOptions}
 use Rattle.p8_view.specs.Ending.{view_of}
+use Rattle.p8_pins.specs.Levels.{pins_when, end_of}
+use Rattle.p8_page.specs.Page.{Block, changes_by, page_of, run_blocks}
 use Rattle.p8_wave.specs.declared.variables.Selection.{Selection}
 use Rattle.p8_inputs.specs.declared.program.Format.{Format}
 use Rattle.p8_inputs.specs.declared.program.Format.TheVariants.{Memory, Source}
 use Rattle.p8_inputs.specs.Programs.{format_for, format_named, format_of, other_file, boot_by, world_of}
-use Rattle.p8_inputs.specs.Asks.{Ask, program, listing, mapping, hinting, message, run_asks, view_asks, check_asks, Given, bytes_in, lines_in, later_bytes_in, IsLegendIn, Give}
+use Rattle.p8_inputs.specs.Asks.{Ask, program, listing, mapping, hinting, message, run_asks, view_asks, page_asks, check_asks, Given, bytes_in, lines_in, later_bytes_in, IsLegendIn, AreBlocksIn, Give}
 use Rattle.p8_inputs.specs.Legends.{range_in}
-use Rattle.p8_commands.specs.Commands.{Command, Dump, RangeOf, Named, Running, BuildSource, ListSource, MapSource, HintSource, ExplainFile, ExplainNumber, RunMemory, RunProgram, Save, Check, Serial as ReadPin, TypeFile, Wave as ShowWave, Plot as DrawPins, ViewRun, Convert, Make, Help}
+use Rattle.p8_commands.specs.Commands.{Command, Dump, RangeOf, Named, Running, BuildSource, ListSource, MapSource, HintSource, ExplainFile, ExplainNumber, RunMemory, RunProgram, Save, Check, Serial as ReadPin, TypeFile, Wave as ShowWave, Plot as DrawPins, ViewRun, PageRun, Convert, Make, Help}
 use Rattle.p8_commands.specs.Pages.{help_text}
 
 -- what a wave shows, and what a picture of pins
 abbrev pub selection_of : (all pins_only : Bool) → Selection
 selection_of all pins_only = record { all = all; pins_only = pins_only }
 
-abbrev pub picture_of : (pins from to : ℕ) (ascii : Bool) → View
-picture_of pins from to ascii = record { pins = pins; from = from; to = to; ascii = ascii }
+abbrev pub picture_of : (pins from to columns : ℕ) (ascii : Bool) → View
+picture_of pins from to columns ascii = record { pins = pins; from = from; to = to; columns = columns; ascii = ascii }
 
 -- which turns a view shows
 abbrev pub options_of : (pins_only quiet : Bool) (cog : Option ℕ) (from to : ℕ) → ViewOptions
@@ -77,8 +79,9 @@ asks_of (Save raw run) = run_asks (format_for raw run.file) run.file run.script
 asks_of (Check raw file history script) = check_asks (format_for raw file) file script history
 asks_of (ReadPin raw run pin bits) = run_asks (format_for raw run.file) run.file run.script
 asks_of (ShowWave alone raw all pins_only run) = run_asks (format_for raw run.file) run.file run.script
-asks_of (DrawPins alone raw ascii run pins from to) = run_asks (format_for raw run.file) run.file run.script
+asks_of (DrawPins alone raw ascii run pins from to columns) = run_asks (format_for raw run.file) run.file run.script
 asks_of (ViewRun raw pins_only quiet run cog from to dump) = view_asks (format_for raw run.file) run.file (name_in dump) run.script
+asks_of (PageRun raw run from to) = page_asks (format_for raw run.file) run.file run.script
 asks_of (TypeFile file pin bits start) = message file ∷ []
 asks_of (Convert kind file) = program (format_of kind) file ∷ []
 asks_of (Make alone seed) = []
@@ -108,6 +111,22 @@ IsViewOfRun format run options dump given text =
     (legend : Legend) × IsLegendIn given legend
     × IsViewed (world_of format (bytes_in given) (lines_in given) run.clocks run.turns) options legend (dumped_range legend dump) text
 
+-- the page of a past: its view between two clocks, with no dump, the changes of its pins, and the blocks of what is run
+abbrev pub IsPageOf : World → List Turn → (file : List ℕ) → (from to : ℕ) → Legend → List Block → List ℕ → Type 0
+IsPageOf w past file from to legend blocks text =
+    (view : List ℕ) × IsViewOf w past (options_of false false None from to) legend None view
+    × (text ≡ page_of (run_blocks file from to view (changes_by (pins_when w past) (end_of w past)) ++ blocks))
+
+-- the page of the ended history of a world
+abbrev pub IsPaged : World → (file : List ℕ) → (from to : ℕ) → Legend → List Block → List ℕ → Type 0
+IsPaged w file from to legend blocks text = (past : List Turn) × Ended asks w past × IsPageOf w past file from to legend blocks text
+
+-- the page of a run of what is given, by the legend and the blocks that are given with it
+abbrev pub IsPageOfRun : Format → Running → (from to : ℕ) → List Given → List ℕ → Type 0
+IsPageOfRun format run from to given text =
+    (legend : Legend) × IsLegendIn given legend × (blocks : List Block) × AreBlocksIn given blocks
+    × IsPaged (world_of format (bytes_in given) (lines_in given) run.clocks run.turns) run.file from to legend blocks text
+
 -- the verdict on a history file, by what is given: its program, by what that is taken for, its pin script, and its bytes
 abbrev pub HasVerdict : Format → List Given → checked.Verdict → Type 0
 HasVerdict format given verdict = IsVerdict (boot_by format (bytes_in given)) (lines_in given) (later_bytes_in given) verdict
@@ -126,9 +145,10 @@ IsTextOf (Save raw run) given text = IsToldOfRun (format_for raw run.file) run S
 IsTextOf (Check raw file history script) given text = (count : ℕ) × HasVerdict (format_for raw file) given (Good count) × (text ≡ good_line count)
 IsTextOf (ReadPin raw run pin bits) given text = IsToldOfRun (format_for raw run.file) run (Serial pin bits) given text
 IsTextOf (ShowWave alone raw all pins_only run) given text = IsToldOfRun (format_for raw run.file) run (Wave (selection_of all pins_only)) given text
-IsTextOf (DrawPins alone raw ascii run pins from to) given text = IsToldOfRun (format_for raw run.file) run (Plot (picture_of pins from to ascii)) given text
+IsTextOf (DrawPins alone raw ascii run pins from to columns) given text = IsToldOfRun (format_for raw run.file) run (Plot (picture_of pins from to columns ascii)) given text
 IsTextOf (ViewRun raw pins_only quiet run cog from to dump) given text =
     IsViewOfRun (format_for raw run.file) run (options_of pins_only quiet cog from to) dump given text
+IsTextOf (PageRun raw run from to) given text = IsPageOfRun (format_for raw run.file) run from to given text
 IsTextOf (TypeFile file pin bits start) given text = text ≡ typed_text (bytes_in given) pin bits start
 IsTextOf (Convert kind file) given text = text ≡ other_file kind (bytes_in given)
 IsTextOf (Make alone seed) given text = IsToldOf (made_world seed) (Summary seed) text

@@ -6,6 +6,7 @@
 mod answer;
 mod driver;
 mod laws;
+mod page;
 mod run_laws;
 mod saved_laws;
 mod status;
@@ -15,6 +16,7 @@ mod view;
 mod work;
 
 pub use laws::each_refusal_is_explained;
+pub use page::Paging;
 pub use run_laws::runs_print_their_history;
 pub use saved_laws::saved_histories_are_good;
 pub use status::Status;

@@ -26,8 +26,8 @@ use std::thread::Threads;
 /// - `raw` and `run` write the trace of a run, `save` its history as a file, and `check` how many turns a history file has that is the one of
 ///   a run;
 /// - `serial` writes the bytes that stand on a pin of a run, and `type` a pin script that sends the bytes of a file;
-/// - `wave` writes the wave of a run, `plot` draws the levels of some of its pins, and `view` writes its history for reading, with the names and the
-///   lines of a source;
+/// - `wave` writes the wave of a run, `plot` draws the levels of some of its pins, `view` writes its history for reading, with the names and the
+///   lines of a source, and `page` a page in HTML that shows it in a browser;
 /// - `convert` writes an image as the other kind of file, and `make` the summary of a run of a made program.
 ///
 /// A file is taken for an image where its name ends in `.binary` or `.eeprom`, and else for the top file of a project of sources, which is built

@@ -24,6 +24,7 @@ ghost use Rattle.p8_prop.specs.Texts.{accepted_line as accepted_line_of, asks_of
 ghost use Rattle.p8_prop.specs.Works.{IsCheckedBy, IsRunWork, IsWork, world_in};
 
 use crate::laws::{builds_keep_meaning, runs_are_told};
+use crate::page::{Paging, page_work};
 use crate::view::{Viewing, view_work};
 use p8_access::Boot;
 use p8_commands::{Command, ImageKind, Run, Subcommand, help_page};
@@ -67,6 +68,8 @@ pub enum Work {
     Run { start: Start, finish: Finish },
     /// A run, and the view of it.
     View { start: Start, view: Viewing },
+    /// A run, and the page of it.
+    Page { start: Start, page: Paging },
 }
 
 /// The limits of a run of a made program.
@@ -449,12 +452,14 @@ pub fn work_of<S: Shelf>(alloc: Global, command: Command<'_>, shelf: &mut S) -> 
             pins,
             from,
             to,
+            columns,
             ..
         } => {
             let view = Picture {
                 pins,
                 from,
                 to,
+                columns,
                 ascii,
             };
             chosen_work(alloc, raw, run, Finish::Plot { view }, shelf)
@@ -478,6 +483,7 @@ pub fn work_of<S: Shelf>(alloc: Global, command: Command<'_>, shelf: &mut S) -> 
             };
             view_work(alloc, raw, run, options, dump, shelf)
         }
+        Command::Page { raw, run, from, to } => page_work(alloc, raw, run, from, to, shelf),
         Command::TypeFile {
             file,
             pin,

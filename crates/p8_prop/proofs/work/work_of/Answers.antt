@@ -4,12 +4,12 @@ use Rattle.p8_finish.specs.declared.finish.Finish.TheVariants.{Trace, Saved, Ser
 use Rattle.p8_inputs.specs.declared.program.Format.{Format}
 use Rattle.p8_inputs.specs.declared.program.Format.TheVariants.{Memory}
 use Rattle.p8_inputs.specs.Programs.{format_for, format_named}
-use Rattle.p8_commands.specs.Commands.{RunMemory, RunProgram, Save, Serial as ReadPin, Wave as ShowWave, Plot as DrawPins, ViewRun}
+use Rattle.p8_commands.specs.Commands.{RunMemory, RunProgram, Save, Serial as ReadPin, Wave as ShowWave, Plot as DrawPins, ViewRun, PageRun}
 use Rattle.p8_commands.specs.declared.command.Command.{Command}
 use Rattle.p8_commands.specs.Seen.{command_read, dump_if_any, running}
 use Rattle.p8_prop.specs.Texts.{options_of, picture_of, selection_of}
 use Rattle.p8_prop.specs.Works.{IsRunWork, IsWork}
-use Rattle.p8_prop.proofs.Coming.{run-work, view-work}
+use Rattle.p8_prop.proofs.Coming.{run-work, view-work, page-work}
 use Rattle.p8_prop.proofs.work.work_of.Goals as goal
 
 pub returns-in-Raw-clause-work : goal.returns-in-Raw-clause-work
@@ -58,7 +58,7 @@ returns-in-Plot-clause-work g c =
     let run = running c.in-Plot.run' in
     let result = c.chosen_work-in-Plot.result in
     subst (λ (command : Command). IfOk result (IsWork files (command_read command))) (sym c.in-Plot.is)
-    (IfOk-weaker result _ _ (run-work files (DrawPins c.in-Plot.alone c.in-Plot.raw c.in-Plot.ascii run c.in-Plot.pins c.in-Plot.from c.in-Plot.to) (format_for c.in-Plot.raw run.file) run (Plot (picture_of c.in-Plot.pins c.in-Plot.from c.in-Plot.to c.in-Plot.ascii)) (λ text is. is)) c.chosen_work-in-Plot.ensures.work)
+    (IfOk-weaker result _ _ (run-work files (DrawPins c.in-Plot.alone c.in-Plot.raw c.in-Plot.ascii run c.in-Plot.pins c.in-Plot.from c.in-Plot.to c.in-Plot.columns) (format_for c.in-Plot.raw run.file) run (Plot (picture_of c.in-Plot.pins c.in-Plot.from c.in-Plot.to c.in-Plot.columns c.in-Plot.ascii)) (λ text is. is)) c.chosen_work-in-Plot.ensures.work)
 
 pub returns-in-View-clause-work : goal.returns-in-View-clause-work
 returns-in-View-clause-work g c =
@@ -69,6 +69,14 @@ returns-in-View-clause-work g c =
     let result = c.view_work.result in
     subst (λ (command : Command). IfOk result (IsWork files (command_read command))) (sym c.in-View.is)
     (IfOk-weaker result _ _ (view-work files (ViewRun c.in-View.raw c.in-View.pins_only c.in-View.quiet run c.in-View.cog c.in-View.from c.in-View.to dump) (format_for c.in-View.raw run.file) run options dump (λ text is. is)) c.view_work.ensures.work)
+
+pub returns-in-Page-clause-work : goal.returns-in-Page-clause-work
+returns-in-Page-clause-work g c =
+    let files = g.S.Shelf.files c.args.shelf.now in
+    let run = running c.in-Page.run' in
+    let result = c.page_work.result in
+    subst (λ (command : Command). IfOk result (IsWork files (command_read command))) (sym c.in-Page.is)
+    (IfOk-weaker result _ _ (page-work files (PageRun c.in-Page.raw run c.in-Page.from c.in-Page.to) (format_for c.in-Page.raw run.file) run c.in-Page.from c.in-Page.to (λ text is. is)) c.page_work.ensures.work)
 
 pub returns-in_ok-work-in-ExplainNumber-clause-work : goal.returns-in_ok-work-in-ExplainNumber-clause-work
 returns-in_ok-work-in-ExplainNumber-clause-work g c =
