@@ -1,5 +1,5 @@
 //! Tests of the machine, of what it stands on and of what is made of its histories: worked values, instructions, lives, history
-//! files and their checker, waves, pictures of pins, and views.
+//! files and their checker, waves, pictures of pins, views, and pages.
 //!
 //! They stand apart from the crates that they test, because a crate with tests is proved twice.
 #![tactic(auto)]
@@ -28,6 +28,8 @@ mod instructions;
 mod lives;
 #[cfg(test)]
 mod machine;
+#[cfg(test)]
+mod pages;
 #[cfg(test)]
 mod pasm;
 #[cfg(test)]

@@ -6,7 +6,7 @@ use crate::histories::boot_of_blink;
 use crate::waves::WAKING;
 use p8_access::Boot;
 use p8_ledger::Limits;
-use p8_legend::{Legend, Range};
+use p8_legend::{Legend, Range, Ranges};
 use p8_machine::run_counted;
 use p8_pins::PinScript;
 use p8_tree::Text;
@@ -76,7 +76,7 @@ fn seen(alloc: Global, boot: Boot, legend: &Legend, row: &Row) -> Result<Vec<u8>
     )
 }
 
-/// A range with its name, or with its place in a source.
+/// A range with its name, with its place in a source, or with what its bytecode names in a frame.
 type Told = (u16, u16, &'static [u8]);
 
 /// The names of the Spin program: two of its methods, and the parameter of the one that the second cog runs.
@@ -93,22 +93,30 @@ static PLACES: [Told; 3] = [
     (0x3A, 0x50, b"led.spin:9 blink"),
 ];
 
+/// What three bytecodes name in the frames of their methods: the parameter that `start` stores, its result, and nothing that is told.
+static LOCALS: [Told; 3] = [
+    (0x31, 0x32, b"start.p"),
+    (0x38, 0x39, b"start.result"),
+    (0x3A, 0x3B, b""),
+];
+
+/// Puts these texts with their ranges.
+fn put(alloc: Global, ranges: &mut Ranges, all: &[Told]) -> Result<(), NoMemory> {
+    for (address, end, text) in all {
+        let range = Range {
+            address: *address,
+            end: *end,
+        };
+        ranges.push(range, Text::copy_of(alloc, text)?)?;
+    }
+    Ok(())
+}
+
 fn legend_of_blink(alloc: Global) -> Result<Legend, NoMemory> {
     let mut legend = Legend::empty(alloc);
-    for (address, end, text) in &NAMES {
-        let range = Range {
-            address: *address,
-            end: *end,
-        };
-        legend.names.push(range, Text::copy_of(alloc, text)?)?;
-    }
-    for (address, end, text) in &PLACES {
-        let range = Range {
-            address: *address,
-            end: *end,
-        };
-        legend.places.push(range, Text::copy_of(alloc, text)?)?;
-    }
+    put(alloc, &mut legend.names, &NAMES)?;
+    put(alloc, &mut legend.places, &PLACES)?;
+    put(alloc, &mut legend.locals, &LOCALS)?;
     Ok(legend)
 }
 
@@ -128,11 +136,11 @@ static BLINKING: [(Row, &[u8]); 5] = [
         8224 102.800 us cog 0 write long 0078 = 00000000\n\
         8336 104.200 us cog 0 write long 007C = 00000000 top.spin:3 main\n\
         8352 104.400 us cog 0 write long 0080 = 00000004 top.spin:3 main\n\
-        8432 105.400 us cog 0 read long 0080 = 00000004 led.spin:6 start\n\
+        8432 105.400 us cog 0 read long start.p = 00000004 led.spin:6 start\n\
         8512 106.400 us cog 0 write long pin = 00000004 led.spin:6 start\n\
         8528 106.600 us cog 0 coginit 1 spin blink 0050 led.spin:6 start\n\
         8530 106.625 us cog 1 begin of spin blink 0050\n\
-        8640 108.000 us cog 0 write long 007C = 00000002 led.spin:6 start\n\
+        8640 108.000 us cog 0 write long start.result = 00000002 led.spin:6 start\n\
         8720 109.000 us cog 0 cogstop 0 top.spin:3 main\n\
         16738 209.225 us cog 1 write long 0050 = 00000000\n\
         16786 209.825 us cog 1 read long pin = 00000004 led.spin:9 blink\n\

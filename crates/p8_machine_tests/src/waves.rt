@@ -30,7 +30,8 @@ const WOKEN: &[u8] = b"$version Propeller P8X32A $end\n$timescale 100 ps $end\n\
     #2081125\n1!\nb00000000000000000000000000000001 B\n\
     #2082000\n0!\nb00000000000000000000000000000000 A\nb00000000000000000000000000000000 B\nb00 C\n\
     #2082250\nb00 F\n\
-    #2500000\n";
+    #2500000\n\
+    $comment 1001 turns are made, the last at clock 16658: no cog makes another before clock 20000 $end\n";
 
 /// The wave of a run of a raw program over so many clocks, without a pin script.
 fn raw_wave(
@@ -51,7 +52,8 @@ fn raw_wave(
     wave(alloc, &ended.history, &PinScript::empty(alloc), selection)
 }
 
-/// The clock is 80 MHz, so a clock lasts 125 units of 100 ps.
+/// The clock is 80 MHz, so a clock lasts 125 units of 100 ps. Cog 0 has 502 turns, its load with 496 reads, a start, a wait, two writes of
+/// registers and a stop, and cog 1 has 499.
 #[test]
 fn a_cog_wakes_another(rt: HostRuntime) -> Result<(), Fail> {
     let selection = Selection {
@@ -70,7 +72,8 @@ const WOKEN_PINS: &[u8] = b"$version Propeller P8X32A $end\n$timescale 100 ps $e
     #0\n$dumpvars\n0!\n$end\n\
     #2081125\n1!\n\
     #2082000\n0!\n\
-    #2500000\n";
+    #2500000\n\
+    $comment 1001 turns are made, the last at clock 16658: no cog makes another before clock 20000 $end\n";
 
 #[test]
 fn pins_alone(rt: HostRuntime) -> Result<(), Fail> {
@@ -98,12 +101,14 @@ const WAITED: &[u8] = b"$version Propeller P8X32A $end\n$timescale 100 ps $end\n
     #0\n$dumpvars\n0!\n$end\n\
     #375000001125\n1!\n\
     #375000002000\n0!\n\
-    #500000000000\n";
+    #500000000000\n\
+    $comment 1001 turns are made, the last at clock 3000000018: no cog makes another before clock 4000000000 $end\n";
 
 /// A run of no clock has the values at clock 0, and that time once.
 const NO_CLOCK: &[u8] = b"$version Propeller P8X32A $end\n$timescale 100 ps $end\n\
     $enddefinitions $end\n\
-    #0\n$dumpvars\n$end\n";
+    #0\n$dumpvars\n$end\n\
+    $comment 0 turns are made, the last at clock 0: no cog makes another before clock 0 $end\n";
 
 #[test]
 fn the_longest_and_the_shortest_run(rt: HostRuntime) -> Result<(), Fail> {
@@ -150,7 +155,8 @@ const LOCKED: &[u8] = b"$version Propeller P8X32A $end\n$timescale 100 ps $end\n
     #1030000\n1Y\n\
     #1032000\n0Y\n\
     #1034000\n0Z\n\
-    #2500000\n";
+    #2500000\n\
+    $comment 502 turns are made, the last at clock 8288: no cog makes another before clock 20000 $end\n";
 
 #[test]
 fn all_pins_and_locks(rt: HostRuntime) -> Result<(), Fail> {
@@ -187,7 +193,8 @@ const FEW: &[u8] = b"$version Propeller P8X32A $end\n\
     #16\nb10 C\n\
     #100\n1\"\n\
     #8200\n0\"\n\
-    #8224\n";
+    #8224\n\
+    $comment 2 turns are made, the last at clock 8224 of 20000: no more are asked for; --turns gives more $end\n";
 
 /// The run of that image with this script, up to its second turn.
 fn few_turns(alloc: Global, script: &PinScript) -> Result<Ended, NoMemory> {

@@ -35,6 +35,15 @@ const SHORT_LISTING: &[u8] = b"object loop.spin 0010\nmethod 1 0018\n0018 04 7E\
 /// The listing of `PUB main`.
 const LISTING: &[u8] = b"object main.spin 0010\nmethod 1 0018\n0018 32\n";
 
+/// The levels of pin 0 up to clock 2000, 100 clocks a column, with that script.
+const NARROW: &[u8] = b"P0  ----------_-_____-_-\n    |         |\n    0         1000\n\
+    124 turns are made, the last at clock 1984: no cog makes another before clock 2000\n";
+
+/// The levels of pin 0 of `PUB main` up to clock 20,000, 1,000 clocks a column, at 12 MHz.
+const TIMED: &[u8] =
+    b"P0  ____________________\n    |         |\n    0         10000\nus  0.000     833.333\n\
+    3 turns are made, the last at clock 8272: no cog makes another before clock 20000\n";
+
 /// The summary of the made program of seed 1.
 const MADE: &[u8] = b"made 1\nturns 36299\nlast 99998 7\nwords 319AD0F5\n";
 
@@ -189,7 +198,7 @@ fn is_refused(alloc: Global, refusal: &Refusal) -> Result<bool, NoMemory> {
 }
 
 /// Calls and what they write. An option stands before FILE, and another one between FILE and CLOCKS.
-static ANSWERS: [(&str, &[u8]); 20] = [
+static ANSWERS: [(&str, &[u8]); 22] = [
     ("run --alone a.binary --dump=0000:2 20000", TEXT),
     ("build main.spin", IMAGE),
     ("list main.spin", LISTING),
@@ -207,8 +216,13 @@ static ANSWERS: [(&str, &[u8]); 20] = [
     ),
     (
         "plot a.binary 2000 0 995:1005 --raw --ascii --alone --pins=sent.pins",
-        b"P0  -----_____\n    |\n    995\n",
+        b"P0  -----_____\n    |\n    995\n124 turns are made, the last at clock 1984: no cog makes another before clock 2000\n",
     ),
+    (
+        "plot a.binary 2000 0 --raw --ascii --alone --pins=sent.pins --width 20",
+        NARROW,
+    ),
+    ("plot main.spin 20000 0 --width 20 --ascii --alone", TIMED),
     ("list loop.spin --short", SHORT_LISTING),
     ("make --alone 01", MADE),
     ("help make", PAGE),
@@ -232,7 +246,7 @@ fn carries_commands_out(rt: HostRuntime) {
 }
 
 /// Calls whose files or whose text are at fault.
-static FAULTS: [Refusal; 16] = [
+static FAULTS: [Refusal; 17] = [
     (
         "build bad.spin",
         0,
@@ -345,6 +359,13 @@ static FAULTS: [Refusal; 16] = [
         Status::Refused,
         "prop: next.spin:2:14: 6 Unexpected\n",
     ),
+    (
+        "page outer.spin 20000",
+        3,
+        0,
+        Status::Refused,
+        "prop: next.spin:2:14: 6 Unexpected\n",
+    ),
 ];
 
 #[test]
@@ -419,8 +440,9 @@ fn an_empty_word_is_a_file(rt: HostRuntime) {
 
 /// Too many turns, pin 32, an option given twice, a call for help as an option, help on another word, a run by a crew, which is no
 /// command for one thread, too great a seed and none, no words, too many clocks of a run that is traced, read and shown, short code of an image, pins and clocks that there
-/// aren't, numbers of digits alone that are none of a refusal, words that these commands don't have, and a cog and a clock that there aren't.
-static NO_COMMANDS: [&str; 28] = [
+/// aren't, too few columns and too many, numbers of digits alone that are none of a refusal, words that these commands don't have, a cog and a clock that
+/// there aren't, too many turns of a page, a cog of a page, and clocks that end before they begin.
+static NO_COMMANDS: [&str; 33] = [
     "save a.binary 17 --turns 40001",
     "serial a.binary 1951 32 100",
     "raw a.binary 1 --turns 2 --turns=2",
@@ -439,6 +461,8 @@ static NO_COMMANDS: [&str; 28] = [
     "plot a.binary 8 0,3-1 --alone",
     "plot a.binary 8 32 --alone",
     "plot a.binary 8 0 5:9 --alone",
+    "plot a.binary 8 0 --alone --width 19",
+    "plot a.binary 8 0 --alone --width 401",
     "explain",
     "explain 0",
     "explain 32",
@@ -449,6 +473,9 @@ static NO_COMMANDS: [&str; 28] = [
     "view main.spin 20000 --short",
     "view main.spin 20000 --cog 8",
     "view main.spin 20000 --to 20001",
+    "page main.spin 20000 --turns 20001",
+    "page main.spin 20000 --cog 1",
+    "page main.spin 20000 --from 20000 --to 19999",
 ];
 
 #[test]

@@ -1,4 +1,4 @@
-// Worked calls on images of both kinds, on pins, and with shorter code, by one thread.
+// Worked calls on images of both kinds, on pins, with shorter code, and of pages, by one thread.
 use crate::calls::{Left, NOTHING, shelf_failing_at, words_in};
 use crate::commands::IMAGE;
 use p8_io::MemSink;
@@ -6,8 +6,8 @@ use p8_prop::{Status, prop_alone};
 use p8_words::NoMemory;
 use std::alloc::Global;
 
-/// How many bytes a text has at most: an `.eeprom` file and more.
-const ROOM: usize = 40_000;
+/// How many bytes a text has at most: an `.eeprom` file or a page, and more.
+const ROOM: usize = 60_000;
 
 /// How many bytes an `.eeprom` file has.
 const HUB_BYTES: usize = 32_768;
@@ -20,8 +20,8 @@ const CUT: &[u8] =
     b"0 00000001\n1000 00000000\n1100 00000001\n1200 00000000\n1700 00000001\n1800 00000000\n";
 
 /// Files of the shelf beside those with whole memories: images, of which one has the name of the other kind, a file without bytes, a
-/// script, and sources with a constant tree, with a part that is never done, and with a string of it.
-static FILES: [(&str, &[u8]); 6] = [
+/// script, and sources with a constant tree, with a part that is never done, with a string of it, and with a comment that would end a block of a page.
+static FILES: [(&str, &[u8]); 7] = [
     ("a.binary", IMAGE),
     ("short.eeprom", IMAGE),
     ("empty.txt", b""),
@@ -31,6 +31,7 @@ static FILES: [(&str, &[u8]); 6] = [
         "never.spin",
         b"VAR\n  long a\nPUB main\n  if 0\n    a := 1\n",
     ),
+    ("mark.spin", b"PUB main\n'</script>%\xE9\n"),
 ];
 
 /// The trace of the image, with the first two bytes of the hub's memory.
@@ -141,6 +142,68 @@ fn tells_bad_images(rt: HostRuntime) {
     for (line, told) in &FAULTS {
         assert!(rt;
             matches!(is_refused(rt.alloc(), line, told), Ok(true)),
+            "{line}"
+        );
+    }
+}
+
+/// The blocks of a page of that source, of the clocks from 8225 on, behind the style and before the script.
+const MARKED: &[u8] = b"</section>\n<script type=\"text/plain\" class=\"file\">mark.spin</script>\n\
+    <script type=\"text/plain\" class=\"range\">8225\n20000\n</script>\n\
+    <script type=\"text/plain\" class=\"windows\">8240\n8226\n8228\n8230\n8232\n8234\n8236\n8238\n</script>\n\
+    <script type=\"text/plain\" class=\"view\">8272 689.333 us cog 0 cogstop 0 mark.spin:1 main\n\
+    cog 0 is stopped at clock 8272\ncog 1 is idle\ncog 2 is idle\ncog 3 is idle\n\
+    cog 4 is idle\ncog 5 is idle\ncog 6 is idle\ncog 7 is idle\n\
+    3 turns are made, the last at clock 8272\nno cog makes another before clock 20000\n</script>\n\
+    <script type=\"text/plain\" class=\"pins\"></script>\n\
+    <script type=\"text/plain\" class=\"map\">0000 header clkfreq 00B71B00\n0004 header clkmode 00\n\
+    0005 header checksum 6A\n0006 header pbase 0010\n0008 header vbase 001C\n000A header dbase 0024\n\
+    000C header pcurr 0018\n000E header dcurr 0028\n0010 object mark.spin\n0018 method 1 main\n\
+    +0000 result RESULT 1\n0024 stack\n0028 free 32728\n</script>\n\
+    <script type=\"text/plain\" class=\"name\">mark.spin</script>\n\
+    <script type=\"text/plain\" class=\"source\">PUB main\n'%3C/script>%25%E9\n</script>\n<script>\n";
+
+/// Those of a page of hub memory, with the pins of the script up to clock 1050; the load of cog 0 is under way.
+const LOADED: &[u8] = b"</section>\n<script type=\"text/plain\" class=\"file\">a.binary</script>\n\
+    <script type=\"text/plain\" class=\"range\">0\n1050\n</script>\n\
+    <script type=\"text/plain\" class=\"windows\">0\n2\n4\n6\n8\n10\n12\n14\n</script>\n\
+    <script type=\"text/plain\" class=\"view\">16 cog 0 load of 0000, 496 longs\n\
+    cog 0 runs since clock 16, its last turn is at clock 1040, asks nothing before clock 1050\n\
+    cog 1 is idle\ncog 2 is idle\ncog 3 is idle\ncog 4 is idle\ncog 5 is idle\ncog 6 is idle\ncog 7 is idle\n\
+    65 turns are made, the last at clock 1040\nno cog makes another before clock 1050\n</script>\n\
+    <script type=\"text/plain\" class=\"pins\">0 00000001\n1000 00000000\n</script>\n<script>\n";
+
+/// Calls and the blocks of the pages that they write.
+static PAGES: [(&str, &[u8]); 2] = [
+    ("page mark.spin 20000 --from 8225", MARKED),
+    ("page a.binary 1050 --raw --pins cut.pins", LOADED),
+];
+
+/// Whether these bytes stand somewhere in a text.
+fn stands_in(text: &[u8], part: &[u8]) -> bool {
+    let mut rest = text;
+    while let [_, behind @ ..] = rest {
+        if rest.starts_with(part) {
+            return true;
+        }
+        rest = behind;
+    }
+    false
+}
+
+/// Whether a line's words are carried out and leave a page in HTML with these blocks.
+fn shows(alloc: Global, line: &str, blocks: &[u8]) -> Result<bool, NoMemory> {
+    let left = left(alloc, line)?;
+    let is_done = left.status == Status::Ok && left.faults.bytes().is_empty();
+    let page = left.out.bytes();
+    Ok(is_done && page.starts_with(b"<!DOCTYPE html>\n") && stands_in(page, blocks))
+}
+
+#[test]
+fn pages_have_their_blocks(rt: HostRuntime) {
+    for (line, blocks) in &PAGES {
+        assert!(rt;
+            matches!(shows(rt.alloc(), line, blocks), Ok(true)),
             "{line}"
         );
     }

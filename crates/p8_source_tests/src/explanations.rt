@@ -7,7 +7,7 @@ use p8_tree::{Fault, Place, Text};
 use p8_words::NoMemory;
 use std::alloc::Global;
 
-/// A source `m.spin`, the number of its refusal, the line and the column of that, the size of what is too large, and the explanation.
+/// A source `m.spin`, the number of its refusal, the line and the column of that, the size that it tells, and the explanation.
 type Case = (&'static [u8], u8, u32, u32, Option<Size>, &'static [u8]);
 
 /// Whether a refusal is explained so.
@@ -22,7 +22,7 @@ fn is_explained(alloc: Global, case: &Case) -> Result<bool, NoMemory> {
     Ok(text.as_slice() == expected)
 }
 
-static EXPLAINED: [Case; 23] = [
+static EXPLAINED: [Case; 25] = [
     // A token that can't stand where it does, told apart by what its line shows: after a tab, in UTF-16, with CR LF, in a long line.
     (
         b"PUB main\n\ta := next\n",
@@ -202,15 +202,35 @@ static EXPLAINED: [Case; 23] = [
         17,
         2,
         3,
-        None,
+        Some(Size::Arguments {
+            wanted: 1,
+            given: 2,
+        }),
         b"m.spin:2:3: 17 WrongArity\n\
             \x20 waitcnt(1, 2)\n\
             \x20 ^\n\
             In a method it is written `waitcnt(clock)`.\n\
+            2 arguments are given, and 1 is expected.\n\
             The number of arguments isn't that of the method or built-in, or a method has more than 15 parameters.\n\
             Compare the call with the method's first line.\n",
     ),
-    // A second mark of UTF-8, a last Ctrl-Z, half a unit, and a character above 127.
+    (
+        b"PUB main\n  two(1)\nPUB two(a, b)\n",
+        17,
+        2,
+        3,
+        Some(Size::Arguments {
+            wanted: 2,
+            given: 1,
+        }),
+        b"m.spin:2:3: 17 WrongArity\n\
+            \x20 two(1)\n\
+            \x20 ^\n\
+            1 argument is given, and 2 are expected.\n\
+            The number of arguments isn't that of the method or built-in, or a method has more than 15 parameters.\n\
+            Compare the call with the method's first line.\n",
+    ),
+    // A second mark of UTF-8, one mark alone, a last Ctrl-Z, half a unit, and a character above 127.
     (
         b"\xef\xbb\xbf\xef\xbb\xbfPUB main\n",
         1,
@@ -220,7 +240,20 @@ static EXPLAINED: [Case; 23] = [
         b"m.spin:1:1: 1 BadByte\n\
             ???PUB main\n\
             ^\n\
-            The file begins with the mark of UTF-8, the bytes EF BB BF: store it without that mark.\n\
+            The file begins with two marks of UTF-8, the bytes EF BB BF twice: store it with one mark, or with none.\n\
+            No token begins with this character, or the file is UTF-16 and ends in half a unit.\n\
+            Take the character away, or type it again: a copied text may hold one that only looks like another.\n",
+    ),
+    (
+        b"\xef\xbb\xbf\x1a",
+        1,
+        1,
+        1,
+        None,
+        b"m.spin:1:1: 1 BadByte\n\
+            ?\n\
+            ^\n\
+            This is Ctrl-Z, character 26, which some editors put at the end of a file.\n\
             No token begins with this character, or the file is UTF-16 and ends in half a unit.\n\
             Take the character away, or type it again: a copied text may hold one that only looks like another.\n",
     ),

@@ -100,3 +100,55 @@ fn holds(alloc: Global) -> Result<bool, NoMemory> {
 fn tells_the_variables_of_two_instances(rt: HostRuntime) {
     assert!(rt; matches!(holds(rt.alloc()), Ok(true)));
 }
+
+/// A method with a parameter, a named result, an array and a local behind the first eight longs of its frame.
+const FRAMES: &[u8] = b"PUB main
+  foo(1)
+  result := 0
+PRI foo(p) : r | a[6], b
+  r := b
+  a := p
+";
+
+/// What the bytecodes at these addresses name in the frames of their methods.
+///
+/// The code of `main` is 01, 36, 05 02, 35, 61, 32, from 001C on, and that of `foo` is CC 20, 61, 64, 69, 32, from 0023 on: a read of the
+/// local at 20, a write of the result, a read of the parameter at 4, and a write of the array at 8.
+static LOCALS: [(u16, &str); 11] = [
+    (0x1B, ""),
+    (0x1C, ""),
+    (0x20, ""),
+    (0x21, "main.result"),
+    (0x22, ""),
+    (0x23, "foo.b"),
+    (0x24, "foo.b"),
+    (0x25, "foo.r"),
+    (0x26, "foo.p"),
+    (0x27, "foo.a"),
+    (0x28, ""),
+];
+
+/// Whether a legend tells what each of these bytecodes names.
+fn tells_locals(legend: &Legend) -> bool {
+    let mut all = legend.local(None).is_empty();
+    for (address, name) in &LOCALS {
+        all = all && legend.local(Some(*address)) == name.as_bytes();
+    }
+    all
+}
+
+/// Whether the legend of that source does.
+fn tells_frames(alloc: Global) -> Result<bool, NoMemory> {
+    let mut shelf = shelf_of(alloc, &[("top.spin", FRAMES)], 0)?;
+    let legend = legend_on(alloc, &mut shelf);
+    drop(shelf);
+    match legend {
+        Some(legend) => Ok(tells_locals(&legend)),
+        None => Ok(false),
+    }
+}
+
+#[test]
+fn tells_what_bytecodes_name_in_frames(rt: HostRuntime) {
+    assert!(rt; matches!(tells_frames(rt.alloc()), Ok(true)));
+}
