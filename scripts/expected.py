@@ -130,8 +130,17 @@ class Trace:
                 break
             clock, cog, rest = line.split(b" ", 2)
             self.turns.append((int(clock), int(cog), rest.split()))
-        last = self.turns[-1][0] if self.turns else 0
-        self.end = last if len(self.turns) == most else clocks
+        self.last = self.turns[-1][0] if self.turns else 0
+        self.is_full = len(self.turns) == most
+        self.clocks = clocks
+        self.end = self.last if self.is_full else clocks
+
+    def ended(self):
+        """What ended it, below a picture and in a wave."""
+        made = f"{len(self.turns)} turns are made, the last at clock {self.last}"
+        if self.is_full:
+            return f"{made} of {self.clocks}: no more are asked for; --turns gives more"
+        return f"{made}: no cog makes another before clock {self.clocks}"
 
     def keys(self):
         return [(clock, cog) for clock, cog, _ in self.turns]
@@ -226,14 +235,28 @@ def wave_of_pins(text):
 # Pictures of pins
 
 MARKS = "▁▔╳", "_-X"
-COLUMNS = 110
+COLUMNS = 101
 
 
-def picture(trace, script, view):
-    """The pins of a view, which is pins, the first clock, the clock after the last one, and the marks, as text."""
-    pins, first, last, (low, high, changing) = view
+def axis(label, texts):
+    """What is told of each column, at each tenth of them, or each twentieth where one has more than nine characters."""
+    step = 20 if max(map(len, texts)) > 9 else 10
+    return label.ljust(4) + "".join(text.ljust(step) for text in texts[::step]).rstrip()
+
+
+def times(starts, shown, frequency):
+    """The axis of times where so many clocks are shown: in microseconds below 10 milliseconds."""
+    unit, parts = ("us", 10**9) if 100 * shown < frequency else ("ms", 10**6)
+    ticks = [start * parts // frequency for start in starts]
+    return axis(unit, [f"{tick // 1000}.{tick % 1000:03}" for tick in ticks])
+
+
+def picture(trace, script, view, frequency=0):
+    """The pins of a view, which is pins, the first clock, the clock after the last one, the columns, and the marks, as text; with times where a
+    frequency is told."""
+    pins, first, last, columns, (low, high, changing) = view
     end = min(last, trace.end)
-    width = max(1, -(-(end - first) // COLUMNS))
+    width = max(1, -(-(end - first) // columns))
     starts = list(range(first, end, width))
     lines = []
     for pin in sorted(pins):
@@ -246,11 +269,46 @@ def picture(trace, script, view):
             row += (high if changes[at - 1][1] else low) if is_constant else changing
         lines.append(row)
     if starts:
-        # Clocks of ten digits stand at every second tick.
-        step = 20 if starts[-1] >= 10**9 else 10
         lines.append("    " + "".join("|".ljust(10) for _ in starts[::10]).rstrip())
-        lines.append("    " + "".join(str(clock).ljust(step) for clock in starts[::step]).rstrip())
+        lines.append(axis("", [str(start) for start in starts]))
+        lines += [times(starts, end - first, frequency)] if frequency else []
+    lines.append(trace.ended())
     return "".join(line + "\n" for line in lines).encode()
+
+
+# Pages
+
+BLOCK = re.compile(rb'<script type="text/plain" class="([a-z]+)">([ -;=-~\n]*)</script>\n')
+
+
+def blocks_of(page):
+    """The blocks of a page, a kind and the bytes of each; None where it isn't a head, blocks and a tail."""
+    found = list(BLOCK.finditer(page))
+    follow = all(a.end() == b.start() for a, b in zip(found, found[1:]))
+    if not found or not follow or not page.startswith(b"<!DOCTYPE html>\n") or not page.endswith(b"</html>\n"):
+        return None
+    return [(it[1].decode(), re.sub(rb"%([0-9A-F]{2})", lambda byte: bytes([int(byte[1], 16)]), it[2])) for it in found]
+
+
+def page_pins(trace, script):
+    """Each clock of a run at which a pin isn't what it was before, with the 32 pins from it on, as a page has them; before clock 0 all are low."""
+    changed = {}
+    for pin in range(32):
+        before = 0
+        for clock, level in levels(trace, script, pin):
+            if clock < trace.end and level != before:
+                changed[clock] = changed.get(clock, 0) | 1 << pin
+            before = level
+    pins, lines = 0, []
+    for clock in sorted(changed):
+        pins ^= changed[clock]
+        lines.append(f"{clock} {pins:08X}\n")
+    return "".join(lines).encode()
+
+
+def page_windows(first):
+    """Of each cog the first clock from one on at which the hub serves it."""
+    return "".join(f"{first + (2 * cog - first) % 16}\n" for cog in range(8)).encode()
 
 
 # History files
@@ -387,8 +445,9 @@ def is_drawn(text):
     return all(part and int(part[1]) <= int(part[2] or part[1]) <= 31 for part in parts)
 
 
-CLOCKS, SHOWN_CLOCKS, TURNS, KEPT = number(0, 100_000_000), number(0, 4_000_000_000), number(0, 1_000_000), number(0, 40_000)
-PIN, BITS, START, SEED = number(0, 31), number(2, 10_000), number(1, 100_000_000), number(0, 0xFFFFFFFF)
+CLOCKS, SHOWN_CLOCKS = number(0, 100_000_000), number(0, 4_000_000_000)
+TURNS, KEPT, PAGED = number(0, 1_000_000), number(0, 40_000), number(0, 20_000)
+PIN, WIDTH, BITS, START, SEED = number(0, 31), number(20, 400), number(2, 10_000), number(1, 100_000_000), number(0, 0xFFFFFFFF)
 RUN = {"--pins": anything, "--turns": TURNS}
 COMMANDS = {
     "build": ([anything], {}), "list": ([anything], {}), "raw": ([anything, CLOCKS], {**RUN, "--dump": is_dump}),
@@ -399,16 +458,17 @@ COMMANDS = {
     "type": ([anything, PIN, BITS, START], {}),
     "wave": ([anything, SHOWN_CLOCKS], {**RUN, "--raw": None, "--all": None, "--pins-only": None, "--alone": None}),
     "convert": ([is_image], {}), "make": ([SEED], {"--alone": None}), "map": ([anything], {}), "explain": ([anything], {}), "hint": ([anything], {}),
-    "plot": ([anything, SHOWN_CLOCKS, is_drawn], {**RUN, "--raw": None, "--ascii": None, "--alone": None}),
+    "plot": ([anything, SHOWN_CLOCKS, is_drawn], {**RUN, "--raw": None, "--ascii": None, "--width": WIDTH, "--alone": None}),
     "view": ([anything, SHOWN_CLOCKS], {
         **RUN, "--alone": None, "--raw": None, "--cog": number(0, 7), "--from": SHOWN_CLOCKS, "--to": SHOWN_CLOCKS, "--pins-only": None, "--quiet": None,
         "--dump": anything,
     }),
+    "page": ([anything, SHOWN_CLOCKS], {**RUN, "--turns": PAGED, "--raw": None, "--from": SHOWN_CLOCKS, "--to": SHOWN_CLOCKS}),
 }  # fmt: skip
 
 
 def are_clocks(first, last, clocks):
-    """Whether the clocks that a picture or a view shows are in order, and within those of the run."""
+    """Whether the clocks that a picture, a view or a page shows are in order, and within those of the run."""
     return int(first) <= int(last) <= int(clocks)
 
 
@@ -417,8 +477,8 @@ def agree(command, found):
     operands, given = found.operands, found.given
     if command == "explain":
         # A word of digits alone is the number of a refusal.
-        return not re.fullmatch("[0-9]+", operands[0]) or len(operands[0]) < 3 and 1 <= int(operands[0]) <= 30
-    if command == "view":
+        return not re.fullmatch("[0-9]+", operands[0]) or len(operands[0]) < 3 and 1 <= int(operands[0]) <= 31
+    if command in ("view", "page"):
         return len(given.get("--cog", "0")) == 1 and are_clocks(given.get("--from", "0"), given.get("--to", operands[1]), operands[1])
     if command == "plot" and len(operands) == 4:
         span = re.fullmatch(r"([0-9]{1,10}):([0-9]{1,10})", operands[3])

@@ -474,7 +474,7 @@ def script(random):
     return damage_bytes(random, text.encode()) if random.random() < 0.3 else text.encode()
 
 
-COMMANDS = "build list raw run save check serial type wave convert make help map explain hint plot view".split()
+COMMANDS = "build list raw run save check serial type wave convert make help map explain hint plot view page".split()
 ODD_WORDS = [
     # The last of these is a byte that isn't UTF-8.
     *("", " 1", "-1", "+1", "1e3", "0x10", "99999999999", "-", "--", "a\nb", "é", "\udcff"),
@@ -491,7 +491,7 @@ def words(random):
     command = random.choice(COMMANDS)
     operands = {
         "raw": "fn", "run": "fn", "save": "fn", "check": "ff", "serial": "fnnn", "type": "fnnn", "wave": "fn",
-        "make": "n", "help": "c", "plot": random.choice(["fnp", "fnps"]), "view": "fn", "explain": random.choice("fffn"),
+        "make": "n", "help": "c", "plot": random.choice(["fnp", "fnps"]), "view": "fn", "page": "fn", "explain": random.choice("fffn"),
     }.get(command, "f")
     line = [random.choice({"f": files, "n": numbers, "c": COMMANDS, "p": pins, "s": spans}[kind]) for kind in operands]
     if command == "make" and random.random() < 0.9:
@@ -504,6 +504,7 @@ def words(random):
                 [f"--turns={random.choice(numbers)}"], ["--alone"], ["--raw"],
                 ["--all"], ["--quiet"], ["--pins-only"], ["--ascii"], ["--cog", random.choice("07890")], ["--from", random.choice(numbers)],
                 [f"--to={random.choice(numbers)}"], ["--dump", "0010:4"], ["--dump=7fff:1"], ["--dump=7fff:2"], ["--short"],
+                ["--width", random.choice("19 20 400 401 0101".split())],
                 [random.choice(ODD_WORDS)],
             ]
         )
