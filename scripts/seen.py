@@ -46,11 +46,23 @@ def code_ends(listing):
     return ends
 
 
+def locals_of(rows):
+    """What stands in the frames of the methods of a map, as METHOD.NAME; a result without a name of its own is METHOD.result."""
+    method = ""
+    for place, kind, rest in rows:
+        if kind == "method":
+            method = rest.split(" ")[1]
+        elif isinstance(place, str):
+            name = rest.split(" ")[0]
+            yield f"{method}.{'result' if (kind, name) == ('result', 'RESULT') else name}"
+
+
 class Names:
     """The ranges of the hub that have a name, in the order in which they are looked for."""
 
     def __init__(self, rows, ends):
         self.ranges = []
+        self.locals = set(locals_of(rows))
         self.objects(rows, ends)
         for place, kind, rest in rows:
             if kind == "variable":
@@ -287,6 +299,15 @@ def heads_of(content):
     lines = re.split(rb"\r\n|\r|\n", content)
     found = [(at, re.match(rb"(?i)(?:pub|pri)\b[ \t]*(\w*)", line)) for at, line in enumerate(lines, 1)]
     return [(at, head[1].decode("latin-1")) for at, head in found if head]
+
+
+def with_local(line, text, names):
+    """What is due of a line of a view that tells a local of the method in its place, where an address without a name is due; else what is due."""
+    due = re.fullmatch(r"(.* (?:read|write) (?:byte|word|long) )[0-9A-F]{4}( = .*)", text)
+    told = re.fullmatch(r".* (?:read|write) (?:byte|word|long) (\w+\.\w+)((?:\+\d+)?) = .* (\w+)", line)
+    if not due or not told or told[1] not in names.locals or told[1].split(".")[0] != told[3]:
+        return text
+    return due[1] + told[1] + told[2] + due[2]
 
 
 def is_place(text, files):
