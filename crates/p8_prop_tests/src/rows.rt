@@ -181,12 +181,12 @@ static PAGES: [(&str, &[u8]); 2] = [
 
 /// Whether these bytes stand somewhere in a text.
 fn stands_in(text: &[u8], part: &[u8]) -> bool {
-    let mut rest = text;
-    while let [_, behind @ ..] = rest {
-        if rest.starts_with(part) {
-            return true;
+    for at in 0..text.len() {
+        if let Some(rest) = text.get(at..) {
+            if rest.starts_with(part) {
+                return true;
+            }
         }
-        rest = behind;
     }
     false
 }
