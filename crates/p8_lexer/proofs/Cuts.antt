@@ -16,13 +16,13 @@ use Rattle.p8_lexer.specs.declared.piece.Class.{Class}
 use Rattle.p8_lexer.specs.declared.piece.Class.TheVariants as class
 use Rattle.p8_lexer.specs.declared.token.TokenKind.TheVariants.{Name, Number, Float, Str, Symbol, LineEnd}
 use Rattle.p8_lexer.specs.declared.word.Word.{Word}
-use Rattle.p8_lexer.specs.Words.{spelling, other_spellings, symbols, every_word, capital, same, is_among, is_spelled, first_spelled, word_spelled}
+use Rattle.p8_lexer.specs.Words.{entry, first_of, spelling, symbols, every_word, capital, same, is_among, first_spelled, word_spelled}
 use Rattle.p8_lexer.specs.Lexing.{is_letter, is_line_end, is_digit, is_in, mark, AllIn, AreDigits, IsFloatTail, Is, Cuts, IsGood, NoneIs}
 use Rattle.p8_lexer.specs.Cutting.{IsGreatest, IsLongest, IsSymbol, OnlySymbols, IsCut, IsCutOrStuck, cut_or_open}
 use Rattle.p8_lexer.proofs.RunLemmas.{not_both, run_stops, digits_longest}
 use Rattle.p8_lexer.proofs.Pieces.{class_of, may, class_at, letter_class, blank_class, digit_class, take_head, take_second, Starts, starts, one_radix, after_mark, meets_tail}
 use Rattle.p8_lexer.proofs.Symbols.{passes_at, spelling_length, symbol_length}
-use Rattle.p8_lexer.proofs.Searches.{same-refl, same-true, read_back, spells}
+use Rattle.p8_lexer.proofs.Searches.{same-true, read_back, spells, spells_itself}
 
 -- blanks, comments to a line's end, names
 
@@ -225,22 +225,17 @@ capitals_pass : list_all (λ v. same (map capital (spelling v)) (spelling v)) sy
 unfolding symbols
 capitals_pass = refl
 
-no_others : List (List ℕ) → Bool
-no_others [] = true
-no_others (t ∷ ts) = false
+is_single : List (List ℕ) → Bool
+is_single (t ∷ []) = true
+is_single _ = false
 
-singles_pass : list_all (λ v. no_others (other_spellings v)) symbols ≡ true
-unfolding symbols no_others
+singles_pass : list_all (λ v. is_single (entry v).spellings) symbols ≡ true
+unfolding symbols is_single
 singles_pass = refl
 
 letters_pass : list_all (λ v. list_all (λ c. not (is_letter c)) (spelling v)) symbols ≡ true
 unfolding symbols
 letters_pass = refl
-
-nothing : (ts : List (List ℕ)) → no_others ts ≡ true → ts ≡ []
-unfolding no_others
-nothing [] h = refl
-nothing (t ∷ ts) h = absurd cc
 
 no_capital : (c d : ℕ) → capital c ≡ d → not (is_letter d) ≡ true → c ≡ d
 no_capital c d e h = grind (arith, nat_tests)
@@ -265,21 +260,24 @@ or_false : (a : Bool) → a || false ≡ true → a ≡ true
 or_false true h = refl
 or_false false h = h
 
-spelled_by : (w : Word) (t : List ℕ) → other_spellings w ≡ [] → is_spelled w t ≡ true → spelling w ≡ t
-spelled_by w t none h = same-true (spelling w) t (or_false (same (spelling w) t) (sym (ap (λ ts. same (spelling w) t || is_among ts t) none) ∙ h))
+single_among : (ts : List (List ℕ)) (t : List ℕ) → is_single ts ≡ true → is_among ts t ≡ true → first_of ts ≡ t
+unfolding is_single
+single_among [] t one h = absurd cc
+single_among (s ∷ []) t one h = same-true s t (or_false (same s t) h)
+single_among (s ∷ r ∷ ts) t one h = absurd cc
 
 module _ (s : ℕ) (w : Word) (at : slice_get symbols s ≡ Some w) where
   pub symbol_read : (t : List ℕ) → word_spelled t ≡ Some w → t ≡ spelling w
   symbol_read t e =
-      let single = nothing (other_spellings w) (passes_at (λ v. no_others (other_spellings v)) symbols singles_pass s w at) in
-      let capitals = spelled_by w (map capital t) single (spells (map capital t) every_word w e) in
+      let single = passes_at (λ v. is_single (entry v).spellings) symbols singles_pass s w at in
+      let capitals = single_among (entry w).spellings (map capital t) single (spells (map capital t) every_word w e) in
       uncapital t (spelling w) (sym capitals) (passes_at (λ v. list_all (λ c. not (is_letter c)) (spelling v)) symbols letters_pass s w at)
 
   pub symbol_named : (t : List ℕ) → t ≡ spelling w → word_spelled t ≡ Some w
   symbol_named t e =
       let l = spelling_length t s (length (spelling w)) w at (take_whole t (spelling w) e) in
       let c = same-true (map capital (spelling w)) (spelling w) (passes_at (λ v. same (map capital (spelling v)) (spelling v)) symbols capitals_pass s w at) in
-      ap (λ t. first_spelled (map capital t) every_word) e ∙ ap (λ t. first_spelled t every_word) c ∙ read_back w (spelling w) (omega (arith, l.0)) (ap (λ b. b || is_among (other_spellings w) (spelling w)) (same-refl (spelling w)))
+      ap (λ t. first_spelled (map capital t) every_word) e ∙ ap (λ t. first_spelled t every_word) c ∙ read_back w (spelling w) (spells_itself w (omega (arith, l.0)))
     where
       take_whole : (t s : List ℕ) → t ≡ s → take (length s) t ≡ s
       take_whole t s e = subst (λ t. take (length s) t ≡ s) (sym e) (take-length s)

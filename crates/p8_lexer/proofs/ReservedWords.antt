@@ -5,7 +5,7 @@ use Rattle.std.specs.List.{list_all}
 use Rattle.p8_tree.specs.Names.{begins_name, two_operands, on_memory, one_operand, mnemonics, result_word, spin_words, condition_words, is_reserved}
 use Rattle.p8_lexer.specs.declared.word.Word.{Word}
 use Rattle.p8_lexer.specs.declared.word.Word.TheVariants as word
-use Rattle.p8_lexer.specs.Words.{spelling, other_spellings, symbols, reserved_words, every_word, capital, same, is_among, is_spelled, first_spelled, word_spelled}
+use Rattle.p8_lexer.specs.Words.{entry, symbols, reserved_words, every_word, capital, same, is_among, is_spelled, first_spelled, word_spelled}
 use Rattle.p8_lexer.proofs.Searches.{same-true, spells}
 
 both : (a b : Bool) → a && b ≡ true → (a ≡ true) × (b ≡ true)
@@ -66,22 +66,13 @@ free_name n c h =
 is_name_reserved : List ℕ → Bool
 is_name_reserved t = not (begins_name t) || is_reserved t
 
-spelling_reserved : (w : Word) → is_name_reserved (spelling w) ≡ true
+spellings_reserved : (w : Word) → list_all is_name_reserved (entry w).spellings ≡ true
 unfolding is_name_reserved two_operands on_memory one_operand spin_words condition_words
-spelling_reserved word.PlusPlus = refl
-spelling_reserved _ = refl
-
-others_reserved : (w : Word) → list_all is_name_reserved (other_spellings w) ≡ true
-unfolding is_name_reserved two_operands on_memory one_operand spin_words condition_words
-others_reserved word.PlusPlus = refl
-others_reserved _ = refl
+spellings_reserved word.PlusPlus = refl
+spellings_reserved _ = refl
 
 word_reserved : (w : Word) (t : List ℕ) → is_spelled w t ≡ true → is_name_reserved t ≡ true
-word_reserved w t h = go (same (spelling w) t) refl
-  where
-    go : (b : Bool) → same (spelling w) t ≡ b → is_name_reserved t ≡ true
-    go true e = ap is_name_reserved (sym (same-true (spelling w) t e)) ∙ spelling_reserved w
-    go false e = among_passes is_name_reserved (other_spellings w) t (others_reserved w) (sym (ap (λ b. b || is_among (other_spellings w) t) e) ∙ h)
+word_reserved w t h = among_passes is_name_reserved (entry w).spellings t (spellings_reserved w) h
 
 reserved_if : (t : List ℕ) → IsTrue (begins_name t) → is_name_reserved t ≡ true → is_reserved t ≡ true
 unfolding is_name_reserved

@@ -1,19 +1,18 @@
 -- The table of the words: how many rows it has, and which row is whose.
-use Rattle.std.proofs.Common.{◌≡◌, ℕ, zero, suc, ◌-◌, ◌<◌, List, [], ◌∷◌, length, map, take, drop, get_or, true, Some, refl, sym, ap, ◌∙◌, arith}
-use Rattle.std.specs.Prelude.{nat_lt, slice_get, option_map}
+use Rattle.std.proofs.Common.{◌≡◌, ℕ, zero, suc, ◌<◌, List, [], ◌∷◌, length, map, take, get_or, true, Some, refl, sym, ap, ◌∙◌, arith}
+use Rattle.std.specs.Prelude.{nat_lt, slice_get, option_map, Bool, None, if◌then◌else◌}
 use Rattle.std.proofs.lemmas.Bool.Decides.{nat_tests}
-use Rattle.std.proofs.lemmas.List.{length-map, length-drop, take-map, drop-map}
-use Rattle.std.proofs.Math.Seq.{take-length}
+use Rattle.std.proofs.lemmas.List.{length-map, take-map}
 use Rattle.std.proofs.lemmas.Option.{slice_get-map}
 use denote.Enum.Declared.{tag_of}
 use Rattle.p8_lexer.specs.contracts.word.Word.{the_type}
 use Rattle.p8_lexer.specs.declared.word.Word.{Word}
 use Rattle.p8_lexer.specs.declared.word.Word.TheVariants as word
-use Rattle.p8_lexer.specs.Words.{spelling, symbols, reserved_words, every_word}
+use Rattle.p8_lexer.specs.Words.{spelling, symbols, reserved_words, every_word, same}
 use Rattle.p8_lexer.specs.declared.meaning.Meaning.{Meaning}
 use Rattle.p8_lexer.specs.declared.meaning.Sought.{Sought}
 use Rattle.p8_lexer.specs.Meanings.{meaning, first_by, word_by}
-use Rattle.p8_lexer.specs.Table.{Row, CodeRow, row_of, rows, symbol_rows, reserved_rows}
+use Rattle.p8_lexer.specs.Table.{Row, CodeRow, row_of, word_of_row, rows, symbol_rows}
 
 row_count : length rows ≡ 267
 unfolding rows every_word symbols reserved_words
@@ -24,10 +23,6 @@ code_count rs e = sym (length-map rs row_of) ∙ ap length e ∙ row_count
 
 pub first_rows : (rs : List CodeRow) → map row_of rs ≡ rows → map row_of (take 71 rs) ≡ symbol_rows
 first_rows rs e = sym (take-map row_of 71 rs) ∙ ap (take 71) e
-
-pub other_rows : (rs : List CodeRow) → map row_of rs ≡ rows → map row_of (take (length rs - 71) (drop 71 rs)) ≡ reserved_rows
-other_rows rs e =
-    ap (map row_of) (ap (λ n. take n (drop 71 rs)) (sym (length-drop 71 rs)) ∙ take-length (drop 71 rs)) ∙ sym (drop-map row_of 71 rs) ∙ ap (drop 71) e
 
 symbols_are : map (λ r. r.1) symbol_rows ≡ symbols
 unfolding rows every_word symbols reserved_words
@@ -81,3 +76,9 @@ module _ (rs : List CodeRow) (e : map row_of rs ≡ rows) (w : Word) where
 
   pub spelled_there : (d : CodeRow) → (get_or rs (tag_of the_type w) d).0.now ≡ spelling w
   spelled_there d = row_there rs (tag_of the_type w) (spelling w, w) d (ap (λ l. slice_get l (tag_of the_type w)) e ∙ row_at w)
+
+-- the word of a row of the code, where it is spelled so
+pub row_word : (rs : List CodeRow) (n : ℕ) (r : CodeRow) (text : List ℕ) (b : Bool) → slice_get rs n ≡ Some r → b ≡ same r.0.now text →
+    word_of_row (slice_get (map row_of rs) n) text ≡ (if b then Some r.1 else None)
+row_word rs n r text b at is =
+    ap (λ o. word_of_row o text) (slice_get-map row_of rs n ∙ ap (option_map row_of) at) ∙ ap (λ b. if b then Some r.1 else None) (sym is)

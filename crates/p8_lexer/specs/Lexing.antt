@@ -1,7 +1,8 @@
 -- What a text is cut into (Propeller Manual v1.2, "Elements of the Spin language"; the limits are this project's
 -- profile). A text is pieces, one after the other, each as long as a piece can be there. Its tokens are its pieces
 -- but for blanks and comments, and a text that can't be cut so is refused where the cutting ends.
-use Rattle.std.specs.Prelude.{◌≡◌, ◌≢◌, ℕ, ◌+◌, ◌-◌, ◌*◌, ◌^◌, ◌<◌, ◌≤◌, ◌⊎◌, Bool, false, IsTrue, ◌==◌, nat_le, not, ◌||◌, ◌&&◌, List, [], ◌∷◌, ◌++◌, length, take, drop, slice_index, slice_get, if◌then◌else◌, Option, Some, None, codes, filter_map}
+use Rattle.std.specs.Prelude.{◌≡◌, ◌≢◌, ℕ, ◌+◌, ◌-◌, ◌*◌, ◌^◌, ◌<◌, ◌≤◌, ◌⊎◌, Bool, false, IsTrue, ◌==◌, nat_le, not, ◌||◌, ◌&&◌, List, [], ◌∷◌}
+use Rattle.std.specs.Prelude.{◌++◌, length, take, drop, slice_index, slice_get, if◌then◌else◌, Option, Some, None, codes, filter_map}
 use Rattle.p8_lexer.specs.declared.piece.PieceKind.{PieceKind}
 use Rattle.p8_lexer.specs.declared.piece.PieceKind.TheVariants.{Blank, LineComment, Comment, DocComment, Token as TokenOf}
 use Rattle.p8_lexer.specs.declared.piece.Radix.{Radix}
@@ -180,7 +181,12 @@ abbrev pub token_of : List ℕ → Piece → Option Token
 token_of bytes p = token_of_kind p.kind
   where
     token_of_kind : PieceKind → Option Token
-    token_of_kind (TokenOf k) = Some (record { place = place_of (text_of bytes) p.begin; kind = k; begin = offset_of bytes p.begin; end = offset_of bytes p.end })
+    token_of_kind (TokenOf k) = Some (record {
+      place = place_of (text_of bytes) p.begin;
+      kind = k;
+      begin = offset_of bytes p.begin;
+      end = offset_of bytes p.end;
+    })
     token_of_kind _ = None
 
 -- a file of any length is cut into pieces, and these are its tokens
@@ -192,9 +198,11 @@ AreTokens bytes tokens =
 -- after some pieces nothing more can be cut off a file of any length, for this reason and at this place
 abbrev pub IsRefused : List ℕ → Refusal → Place → Type 0
 IsRefused bytes refusal place =
-    (ps : List Piece) × (at : ℕ) × CutsUpTo (text_of bytes) 0 ps at × IsStuck refusal (ends_in_half bytes) (drop at (text_of bytes)) × (place ≡ place_of (text_of bytes) at)
+    (ps : List Piece) × (at : ℕ) × CutsUpTo (text_of bytes) 0 ps at × IsStuck refusal (ends_in_half bytes) (drop at (text_of bytes)) ×
+    (place ≡ place_of (text_of bytes) at)
 
 -- What a lexer tells of a file that is refused: it's too long, which comes first, or it has no tokens.
 pub data IsFault (bytes : List ℕ) (fault : Fault) : Type 0 where
   too_long : longest_file < length bytes → fault.number ≡ refusal_number FileTooLong → fault.place ≡ start → IsFault bytes fault
-  no_tokens : length bytes ≤ longest_file → (refusal : Refusal) → fault.number ≡ refusal_number refusal → IsRefused bytes refusal fault.place → IsFault bytes fault
+  no_tokens : length bytes ≤ longest_file → (refusal : Refusal) → fault.number ≡ refusal_number refusal → IsRefused bytes refusal fault.place →
+      IsFault bytes fault

@@ -1,5 +1,5 @@
--- How a source spells a name. Its tree has the name in capitals, and the place where it stands in the source (Propeller Manual v1.2, "Rules for symbols": letters in either
--- case are the same; the rest is this project's profile).
+-- How a source spells a name. Its tree has the name in capitals, and the place where it stands in the source (Propeller Manual v1.2, "Rules for
+-- symbols": letters in either case are the same; the rest is this project's profile).
 use Rattle.std.specs.Prelude.{ℕ, ◌==◌, ◌&&◌, Bool, if◌then◌else◌, List, [], ◌∷◌, length, take}
 use Rattle.std.specs.Str.{str_eq_ignore_ascii_case}
 use Rattle.p8_tree.specs.declared.places.Place.{Place}

@@ -1,14 +1,13 @@
 // The word that characters spell, and what a token is.
 
-ghost use Rattle.std.specs.Prelude.{◌≡◌, ◌<◌, ◌↔◌, ℕ, false, IsTrue, List, Some, None, length, map};
+ghost use Rattle.std.specs.Prelude.{◌≡◌, ◌<◌, ◌↔◌, ℕ, false, IsTrue, List, Some, None, length, map, slice_get};
 ghost use Rattle.p8_tree.specs.Names.{begins_name, is_reserved};
 ghost use Rattle.p8_lexer.specs.declared.word.Word as word_type;
 ghost use Rattle.p8_lexer.specs.Words.{capital, same, is_spelled, word_spelled, word_of};
-ghost use Rattle.p8_lexer.specs.Table.{row_of, word_in, rows_from};
+ghost use Rattle.p8_lexer.specs.Table.{row_of, word_in, word_of_row};
 
 use crate::characters::Characters;
-use crate::run::is_letter;
-use crate::table::{Row, reserved_rows, symbol_rows};
+use crate::table::{Row, key, numbers_at, table};
 use crate::token::{Token, TokenKind};
 use crate::word::Word;
 
@@ -36,30 +35,32 @@ pub fn named(text: &Characters) -> Option<Word>
     if text.is_empty() {
         return None;
     }
-    word_in(rows_from(text.at(0)), text)
+    let numbers = numbers_at(key(capital(text.at(0)), text.len()));
+    word_in(table(), numbers, text)
 }
 
-// The rows with the spellings that begin as this character does.
-fn rows_from(first: u8) -> &'static [Row]
-    ensures { map row_of result.now ≡ rows_from first }
+// The word of the first of the rows of these numbers that is spelled as the characters are.
+fn word_in(rows: &[Row], numbers: &[u16], text: &Characters) -> Option<Word>
+    ensures { result ≡ word_in (map row_of rows.now) numbers.now (map capital text.now) }
 {
-    if is_letter(first) {
-        reserved_rows()
-    } else {
-        symbol_rows()
-    }
-}
-
-// The word of the first row that is spelled as the characters are.
-fn word_in(rows: &[Row], text: &Characters) -> Option<Word>
-    ensures { result ≡ word_in (map row_of rows.now) (map capital text.now) }
-{
-    for (spelling, word, _) in rows {
-        if is_same(spelling.as_bytes(), text) {
-            return Some(*word);
+    for number in numbers {
+        if let Some(word) = word_of_row(rows, *number, text) {
+            return Some(word);
         }
     }
     None
+}
+
+// The word of the row of this number, where it is spelled as the characters are.
+fn word_of_row(rows: &[Row], number: u16, text: &Characters) -> Option<Word>
+    ensures { result ≡ word_of_row (slice_get (map row_of rows.now) number) (map capital text.now) }
+{
+    let row = rows.get(usize::from(number))?;
+    if is_same(row.0.as_bytes(), text) {
+        Some(row.1)
+    } else {
+        None
+    }
 }
 
 // Whether a spelling is that of the characters, in letters of any case.

@@ -71,7 +71,8 @@ fn value_of(text: &Characters, radix: Radix, from: usize, to: usize) -> Option<u
     requires ordered { from ≤ to }
     requires within { to ≤ length text.now }
     requires digits { AllIn (class.Digits radix) text.now from to }
-    ensures { MatchOption result (2 ^ 32 ≤ value_behind (base radix) 0 (drop from (take to text.now))) (λ v. (v < 2 ^ 32) × (v ≡ value_behind (base radix) 0 (drop from (take to text.now)))) }
+    ensures { MatchOption result (2 ^ 32 ≤ value_behind (base radix) 0 (drop from (take to text.now)))
+        (λ v. (v < 2 ^ 32) × (v ≡ value_behind (base radix) 0 (drop from (take to text.now)))) }
 {
     let mut value = 0u64;
     for i in from..to {

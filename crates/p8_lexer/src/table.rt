@@ -1,8 +1,8 @@
-// The table of the words, from which all spellings come.
+// The table of the words, from which all spellings come, and where to look in it.
 
-ghost use Rattle.std.specs.Prelude.{◌≡◌, map};
+ghost use Rattle.std.specs.Prelude.{◌≡◌, ◌<◌, map};
 ghost use Rattle.p8_lexer.specs.Meanings.{meaning};
-ghost use Rattle.p8_lexer.specs.Table.{row_of, rows, symbol_rows, reserved_rows};
+ghost use Rattle.p8_lexer.specs.Table.{row_of, rows, symbol_rows, key, numbers_at};
 
 use crate::meaning::Meaning;
 use crate::word::Word;
@@ -15,6 +15,7 @@ pub type Row = (&'static str, Word, Meaning);
 
 // Each word stands here at its own number, so the symbols come first; the five that are neither a symbol nor reserved
 // have no characters. After them stand the further spellings of conditions.
+#[rattlefmt::skip]
 static TABLE: [Row; 267] = [
     ("++", Word::PlusPlus, Meaning::Changes(0x20, 0x28)),
     ("--", Word::MinusMinus, Meaning::Changes(0x30, 0x38)),
@@ -55,45 +56,25 @@ static TABLE: [Row; 267] = [
     ("<-=", Word::RotateLeftAssign, Meaning::Assigns(Some(0xE1))),
     (">>=", Word::ShiftRightAssign, Meaning::Assigns(Some(0xE2))),
     ("<<=", Word::ShiftLeftAssign, Meaning::Assigns(Some(0xE3))),
-    (
-        "~>=",
-        Word::ArithmeticShiftAssign,
-        Meaning::Assigns(Some(0xEE)),
-    ),
+    ("~>=", Word::ArithmeticShiftAssign, Meaning::Assigns(Some(0xEE))),
     ("><=", Word::ReverseAssign, Meaning::Assigns(Some(0xEF))),
     ("&=", Word::BitAndAssign, Meaning::Assigns(Some(0xE8))),
     ("|=", Word::BitOrAssign, Meaning::Assigns(Some(0xEA))),
     ("^=", Word::BitXorAssign, Meaning::Assigns(Some(0xEB))),
     ("*=", Word::MultiplyAssign, Meaning::Assigns(Some(0xF4))),
-    (
-        "**=",
-        Word::MultiplyHighAssign,
-        Meaning::Assigns(Some(0xF5)),
-    ),
+    ("**=", Word::MultiplyHighAssign, Meaning::Assigns(Some(0xF5))),
     ("/=", Word::DivideAssign, Meaning::Assigns(Some(0xF6))),
     ("//=", Word::RemainderAssign, Meaning::Assigns(Some(0xF7))),
     ("+=", Word::PlusAssign, Meaning::Assigns(Some(0xEC))),
     ("-=", Word::MinusAssign, Meaning::Assigns(Some(0xED))),
-    (
-        "#>=",
-        Word::LimitMinimumAssign,
-        Meaning::Assigns(Some(0xE4)),
-    ),
-    (
-        "<#=",
-        Word::LimitMaximumAssign,
-        Meaning::Assigns(Some(0xE5)),
-    ),
+    ("#>=", Word::LimitMinimumAssign, Meaning::Assigns(Some(0xE4))),
+    ("<#=", Word::LimitMaximumAssign, Meaning::Assigns(Some(0xE5))),
     ("<=", Word::LessAssign, Meaning::Assigns(Some(0xF9))),
     (">=", Word::GreaterAssign, Meaning::Assigns(Some(0xFA))),
     ("<>=", Word::NotEqualAssign, Meaning::Assigns(Some(0xFB))),
     ("===", Word::EqualAssign, Meaning::Assigns(Some(0xFC))),
     ("=<=", Word::LessOrEqualAssign, Meaning::Assigns(Some(0xFD))),
-    (
-        "=>=",
-        Word::GreaterOrEqualAssign,
-        Meaning::Assigns(Some(0xFE)),
-    ),
+    ("=>=", Word::GreaterOrEqualAssign, Meaning::Assigns(Some(0xFE))),
     ("(", Word::LeftParenthesis, Meaning::Mark),
     (")", Word::RightParenthesis, Meaning::Mark),
     ("[", Word::LeftBracket, Meaning::Mark),
@@ -305,6 +286,81 @@ static TABLE: [Row; 267] = [
     ("IF_NZ_OR_NC", Word::IfNcOrNz, Meaning::Condition(7)),
 ];
 
+// The numbers of the rows with characters, by the key of these: a line for each first character.
+// `scripts/word_order` writes this table and the next one anew.
+#[rattlefmt::skip]
+static ORDER: [u16; 262] = [
+    4, 5,
+    12, 102, 190, 200, 184, 208, 210, 100, 212, 192, 201,
+    77, 142, 145,
+    67, 26, 50, 71, 106, 220, 90, 113, 114, 206, 221, 224, 130, 207, 131, 150, 214, 128, 129, 132, 133, 152, 123,
+    68, 76, 111, 112, 215,
+    166, 88, 86, 87,
+    19, 41, 82, 83, 94, 115, 116, 153,
+    58, 163,
+    59, 84, 107, 108, 232, 234, 235, 251, 255, 85, 233, 236, 237, 252, 256, 231, 230, 241, 242, 257, 258, 262, 263, 240,
+    243, 244, 261, 264, 265, 238, 239, 245, 259, 260, 266, 253, 254,
+    22, 23, 44, 45, 222, 183,
+    6, 0, 48,
+    62, 79, 124, 125, 134, 135, 136, 137, 126, 144, 147, 127,
+    7, 1, 13, 49, 35, 164, 178, 179, 198, 165, 176, 177, 180, 181, 182, 186, 188, 187, 189,
+    64, 65, 229, 101, 199, 225, 97, 202, 204, 203, 205,
+    24, 25, 46, 103, 47, 73, 80, 109, 110, 167, 91,
+    156, 74, 75, 105, 117, 118,
+    98,
+    81, 168, 169, 172, 173, 175, 223, 154, 89, 99, 104, 151, 157, 158, 159,
+    121, 170, 171, 174, 191, 96, 194, 196, 209, 211, 195, 197, 213, 122, 193, 148, 149,
+    95, 217, 216, 218, 155, 219,
+    93,
+    72, 119, 120,
+    226, 227, 228, 78, 92, 160, 161, 162, 138, 139, 140, 141, 143, 146,
+    185,
+    63, 34,
+    60,
+    20, 28, 69, 9, 10, 14, 16, 27, 30, 42, 52, 36, 38, 51, 54,
+    61, 66, 31, 32, 33, 55, 56, 57,
+    2, 21, 29, 3, 8, 11, 15, 17, 18, 43, 53, 37, 39, 40,
+    70,
+];
+
+// Where the numbers of each key begin in `ORDER`, a line for each first character and an entry for each length; and where the last ones end.
+#[rattlefmt::skip]
+static STARTS: [u16; 513] = [
+    0, 0, 1, 2, 2, 2, 2, 2, 2, 2, 2, 2, 2, 2, 2, 2,
+    2, 2, 3, 3, 6, 9, 11, 13, 13, 13, 13, 13, 13, 13, 13, 13,
+    13, 13, 13, 13, 13, 14, 14, 14, 14, 16, 16, 16, 16, 16, 16, 16,
+    16, 16, 17, 18, 22, 28, 30, 33, 38, 39, 39, 39, 39, 39, 39, 39,
+    39, 39, 40, 40, 41, 44, 44, 44, 44, 44, 44, 44, 44, 44, 44, 44,
+    44, 44, 44, 44, 45, 46, 46, 47, 47, 47, 48, 48, 48, 48, 48, 48,
+    48, 48, 49, 50, 51, 55, 56, 56, 56, 56, 56, 56, 56, 56, 56, 56,
+    56, 56, 56, 56, 56, 56, 56, 56, 56, 56, 56, 56, 56, 56, 56, 56,
+    56, 56, 57, 57, 57, 57, 58, 58, 58, 58, 58, 58, 58, 58, 58, 58,
+    58, 58, 59, 60, 62, 67, 73, 73, 73, 74, 81, 87, 93, 95, 95, 95,
+    95, 95, 96, 98, 100, 100, 100, 101, 101, 101, 101, 101, 101, 101, 101, 101,
+    101, 101, 102, 104, 104, 104, 104, 104, 104, 104, 104, 104, 104, 104, 104, 104,
+    104, 104, 105, 105, 105, 106, 106, 107, 112, 115, 116, 116, 116, 116, 116, 116,
+    116, 116, 117, 120, 125, 133, 135, 135, 135, 135, 135, 135, 135, 135, 135, 135,
+    135, 135, 136, 138, 141, 144, 146, 146, 146, 146, 146, 146, 146, 146, 146, 146,
+    146, 146, 147, 150, 153, 156, 157, 157, 157, 157, 157, 157, 157, 157, 157, 157,
+    157, 157, 157, 158, 161, 163, 163, 163, 163, 163, 163, 163, 163, 163, 163, 163,
+    163, 163, 163, 163, 163, 164, 164, 164, 164, 164, 164, 164, 164, 164, 164, 164,
+    164, 164, 164, 164, 171, 171, 172, 179, 179, 179, 179, 179, 179, 179, 179, 179,
+    179, 179, 179, 179, 184, 189, 192, 194, 196, 196, 196, 196, 196, 196, 196, 196,
+    196, 196, 196, 197, 198, 200, 202, 202, 202, 202, 202, 202, 202, 202, 202, 202,
+    202, 202, 202, 202, 202, 202, 203, 203, 203, 203, 203, 203, 203, 203, 203, 203,
+    203, 203, 203, 203, 204, 206, 206, 206, 206, 206, 206, 206, 206, 206, 206, 206,
+    206, 206, 206, 209, 209, 210, 211, 214, 218, 220, 220, 220, 220, 220, 220, 220,
+    220, 220, 220, 220, 221, 221, 221, 221, 221, 221, 221, 221, 221, 221, 221, 221,
+    221, 221, 221, 221, 221, 221, 221, 221, 221, 221, 221, 221, 221, 221, 221, 221,
+    221, 221, 222, 223, 223, 223, 223, 223, 223, 223, 223, 223, 223, 223, 223, 223,
+    223, 223, 224, 224, 224, 224, 224, 224, 224, 224, 224, 224, 224, 224, 224, 224,
+    224, 224, 227, 235, 239, 239, 239, 239, 239, 239, 239, 239, 239, 239, 239, 239,
+    239, 239, 241, 244, 247, 247, 247, 247, 247, 247, 247, 247, 247, 247, 247, 247,
+    247, 247, 250, 258, 261, 261, 261, 261, 261, 261, 261, 261, 261, 261, 261, 261,
+    261, 261, 262, 262, 262, 262, 262, 262, 262, 262, 262, 262, 262, 262, 262, 262,
+    262,
+];
+
 /// All rows of the table.
 pub fn table() -> &'static [Row]
     ensures words { map row_of result.now ≡ rows }
@@ -320,9 +376,21 @@ pub fn symbol_rows() -> &'static [Row]
     &table()[..SYMBOL_COUNT as usize]
 }
 
-/// The other rows, which begin with a letter.
-pub fn reserved_rows() -> &'static [Row]
-    ensures { map row_of result.now ≡ reserved_rows }
+/// What spellings with the same first character and the same length have in common, below 512: few spellings have the same key.
+pub fn key(first: u8, length: usize) -> usize
+    ensures value { result ≡ key first length }
+    ensures small { result < 512 }
 {
-    &table()[SYMBOL_COUNT as usize..]
+    usize::from(first) % 32 * 16 + length % 16
+}
+
+/// The numbers of the rows with spellings of this key, below 512.
+#[tactic(auto, unfolding(crate::specs::Table::numbers_at))]
+pub fn numbers_at(key: usize) -> &'static [u16]
+    requires { key < 512 }
+    ensures { result.now ≡ numbers_at key }
+{
+    let end = usize::from(STARTS[key + 1]).min(ORDER.len());
+    let begin = usize::from(STARTS[key]).min(end);
+    &ORDER[begin..end]
 }

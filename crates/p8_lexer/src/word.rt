@@ -13,531 +13,57 @@ use std::fmt::{self, Debug, Formatter, Write};
 /// Each symbol and each reserved word of the language and of the assembler stands here once. The symbols come
 /// first, in the order of their numbers.
 #[derive(Clone, Copy, PartialEq, Eq)]
+#[rattlefmt::skip]
 pub enum Word {
     // Operators before or after a variable, and addresses.
-    /// `++`, adds 1 to a variable
-    PlusPlus,
-    /// `--`, subtracts 1 from a variable
-    MinusMinus,
-    /// `~`, extends a sign from bit 7, or clears a variable
-    Tilde,
-    /// `~~`, extends a sign from bit 15, or sets a variable
-    TildeTilde,
-    /// `@`, a variable's address
-    At,
-    /// `@@`, an object's address
-    AtAt,
+    PlusPlus, MinusMinus, Tilde, TildeTilde, At, AtAt,
     // Operators before a value, and sums.
-    /// `+`
-    Plus,
-    /// `-`
-    Minus,
-    /// `^^`, square root
-    SquareRoot,
-    /// `||`, absolute value
-    Absolute,
-    /// `|<`, 2 to a power
-    DecodeBit,
-    /// `>|`, the place of the highest 1
-    EncodeBit,
-    /// `!`, each bit inverted
-    Invert,
+    Plus, Minus, SquareRoot, Absolute, DecodeBit, EncodeBit, Invert,
     // Shifts and rotations.
-    /// `->`
-    RotateRight,
-    /// `<-`
-    RotateLeft,
-    /// `>>`
-    ShiftRight,
-    /// `<<`
-    ShiftLeft,
-    /// `~>`
-    ArithmeticShift,
-    /// `><`
-    Reverse,
+    RotateRight, RotateLeft, ShiftRight, ShiftLeft, ArithmeticShift, Reverse,
     // Operators on bits.
-    /// `&`
-    BitAnd,
-    /// `|`
-    BitOr,
-    /// `^`
-    BitXor,
+    BitAnd, BitOr, BitXor,
     // Products.
-    /// `*`, low half of the product
-    Multiply,
-    /// `**`, high half of the product
-    MultiplyHigh,
-    /// `/`
-    Divide,
-    /// `//`
-    Remainder,
+    Multiply, MultiplyHigh, Divide, Remainder,
     // Limits.
-    /// `#>`, the greater
-    LimitMinimum,
-    /// `<#`, the lesser
-    LimitMaximum,
+    LimitMinimum, LimitMaximum,
     // Comparisons.
-    /// `<`
-    Less,
-    /// `>`
-    Greater,
-    /// `<>`
-    NotEqual,
-    /// `==`
-    Equal,
-    /// `=<`
-    LessOrEqual,
-    /// `=>`
-    GreaterOrEqual,
+    Less, Greater, NotEqual, Equal, LessOrEqual, GreaterOrEqual,
     // Assignment, alone and of each operator between two values.
-    /// `:=`
-    Assign,
-    /// `->=`
-    RotateRightAssign,
-    /// `<-=`
-    RotateLeftAssign,
-    /// `>>=`
-    ShiftRightAssign,
-    /// `<<=`
-    ShiftLeftAssign,
-    /// `~>=`
-    ArithmeticShiftAssign,
-    /// `><=`
-    ReverseAssign,
-    /// `&=`
-    BitAndAssign,
-    /// `|=`
-    BitOrAssign,
-    /// `^=`
-    BitXorAssign,
-    /// `*=`
-    MultiplyAssign,
-    /// `**=`
-    MultiplyHighAssign,
-    /// `/=`
-    DivideAssign,
-    /// `//=`
-    RemainderAssign,
-    /// `+=`
-    PlusAssign,
-    /// `-=`
-    MinusAssign,
-    /// `#>=`
-    LimitMinimumAssign,
-    /// `<#=`
-    LimitMaximumAssign,
-    /// `<=`
-    LessAssign,
-    /// `>=`
-    GreaterAssign,
-    /// `<>=`
-    NotEqualAssign,
-    /// `===`
-    EqualAssign,
-    /// `=<=`
-    LessOrEqualAssign,
-    /// `=>=`
-    GreaterOrEqualAssign,
+    Assign, RotateRightAssign, RotateLeftAssign, ShiftRightAssign, ShiftLeftAssign, ArithmeticShiftAssign, ReverseAssign, BitAndAssign, BitOrAssign,
+    BitXorAssign, MultiplyAssign, MultiplyHighAssign, DivideAssign, RemainderAssign, PlusAssign, MinusAssign, LimitMinimumAssign, LimitMaximumAssign,
+    LessAssign, GreaterAssign, NotEqualAssign, EqualAssign, LessOrEqualAssign, GreaterOrEqualAssign,
     // Punctuation.
-    /// `(`
-    LeftParenthesis,
-    /// `)`
-    RightParenthesis,
-    /// `[`
-    LeftBracket,
-    /// `]`
-    RightBracket,
-    /// `,`
-    Comma,
-    /// `:`
-    Colon,
-    /// `.`
-    Dot,
-    /// `..`
-    DotDot,
-    /// `=`
-    EqualSign,
-    /// `#`
-    Hash,
-    /// `$`
-    Dollar,
-    /// `\`
-    Backslash,
-    /// `?`
-    QuestionMark,
+    LeftParenthesis, RightParenthesis, LeftBracket, RightBracket, Comma, Colon, Dot, DotDot, EqualSign, Hash, Dollar, Backslash, QuestionMark,
     // Block words.
-    /// `CON`
-    Con,
-    /// `VAR`
-    Var,
-    /// `OBJ`
-    Obj,
-    /// `PUB`
-    Pub,
-    /// `PRI`
-    Pri,
-    /// `DAT`
-    Dat,
+    Con, Var, Obj, Pub, Pri, Dat,
     // Sizes.
-    /// `BYTE`
-    ByteSize,
-    /// `WORD`
-    WordSize,
-    /// `LONG`
-    LongSize,
+    ByteSize, WordSize, LongSize,
     // Words of DAT lines.
-    /// `ORG`
-    Org,
-    /// `RES`
-    Res,
-    /// `FIT`
-    Fit,
-    /// `FILE`
-    File,
+    Org, Res, Fit, File,
     // Statements.
-    /// `IF`
-    If,
-    /// `IFNOT`
-    Ifnot,
-    /// `ELSEIF`
-    Elseif,
-    /// `ELSEIFNOT`
-    Elseifnot,
-    /// `ELSE`
-    Else,
-    /// `REPEAT`
-    Repeat,
-    /// `CASE`
-    Case,
-    /// `OTHER`
-    Other,
-    /// `WHILE`
-    While,
-    /// `UNTIL`
-    Until,
-    /// `FROM`
-    From,
-    /// `TO`
-    To,
-    /// `STEP`
-    Step,
-    /// `NEXT`
-    Next,
-    /// `QUIT`
-    Quit,
-    /// `RETURN`
-    Return,
-    /// `ABORT`
-    Abort,
+    If, Ifnot, Elseif, Elseifnot, Else, Repeat, Case, Other, While, Until, From, To, Step, Next, Quit, Return, Abort,
     // Operators in words; AND and OR are instructions too.
-    /// `NOT`
-    Not,
-    /// `AND`
-    And,
-    /// `OR`
-    Or,
+    Not, And, Or,
     // The result variable and the registers.
-    /// `RESULT`
-    Result,
-    /// `PAR`
-    Par,
-    /// `CNT`
-    Cnt,
-    /// `INA`
-    Ina,
-    /// `INB`
-    Inb,
-    /// `OUTA`
-    Outa,
-    /// `OUTB`
-    Outb,
-    /// `DIRA`
-    Dira,
-    /// `DIRB`
-    Dirb,
-    /// `CTRA`
-    Ctra,
-    /// `CTRB`
-    Ctrb,
-    /// `FRQA`
-    Frqa,
-    /// `FRQB`
-    Frqb,
-    /// `PHSA`
-    Phsa,
-    /// `PHSB`
-    Phsb,
-    /// `VCFG`
-    Vcfg,
-    /// `VSCL`
-    Vscl,
-    /// `SPR`
-    Spr,
+    Result, Par, Cnt, Ina, Inb, Outa, Outb, Dira, Dirb, Ctra, Ctrb, Frqa, Frqb, Phsa, Phsb, Vcfg, Vscl, Spr,
     // Expressions.
-    /// `STRING`
-    String,
-    /// `CONSTANT`
-    Constant,
-    /// `LOOKUP`
-    Lookup,
-    /// `LOOKUPZ`
-    Lookupz,
-    /// `LOOKDOWN`
-    Lookdown,
-    /// `LOOKDOWNZ`
-    Lookdownz,
-    /// `CLKFREQ`
-    Clkfreq,
-    /// `CLKMODE`
-    Clkmode,
+    String, Constant, Lookup, Lookupz, Lookdown, Lookdownz, Clkfreq, Clkmode,
     // Built-in methods; some are instructions too.
-    /// `COGID`
-    Cogid,
-    /// `COGNEW`
-    Cognew,
-    /// `COGINIT`
-    Coginit,
-    /// `COGSTOP`
-    Cogstop,
-    /// `LOCKNEW`
-    Locknew,
-    /// `LOCKRET`
-    Lockret,
-    /// `LOCKSET`
-    Lockset,
-    /// `LOCKCLR`
-    Lockclr,
-    /// `WAITCNT`
-    Waitcnt,
-    /// `WAITPEQ`
-    Waitpeq,
-    /// `WAITPNE`
-    Waitpne,
-    /// `WAITVID`
-    Waitvid,
-    /// `BYTEFILL`
-    Bytefill,
-    /// `WORDFILL`
-    Wordfill,
-    /// `LONGFILL`
-    Longfill,
-    /// `BYTEMOVE`
-    Bytemove,
-    /// `WORDMOVE`
-    Wordmove,
-    /// `LONGMOVE`
-    Longmove,
-    /// `STRSIZE`
-    Strsize,
-    /// `STRCOMP`
-    Strcomp,
-    /// `CLKSET`
-    Clkset,
-    /// `REBOOT`
-    Reboot,
-    /// `CHIPVER`
-    Chipver,
+    Cogid, Cognew, Coginit, Cogstop, Locknew, Lockret, Lockset, Lockclr, Waitcnt, Waitpeq, Waitpne, Waitvid, Bytefill, Wordfill, Longfill, Bytemove,
+    Wordmove, Longmove, Strsize, Strcomp, Clkset, Reboot, Chipver,
     // Floating point.
-    /// `FLOAT`
-    Float,
-    /// `ROUND`
-    Round,
-    /// `TRUNC`
-    Trunc,
-    /// `PI`
-    Pi,
+    Float, Round, Trunc, Pi,
     // Instructions.
-    /// `RDBYTE`
-    Rdbyte,
-    /// `RDWORD`
-    Rdword,
-    /// `RDLONG`
-    Rdlong,
-    /// `WRBYTE`
-    Wrbyte,
-    /// `WRWORD`
-    Wrword,
-    /// `WRLONG`
-    Wrlong,
-    /// `HUBOP`
-    Hubop,
-    /// `MUL`
-    Mul,
-    /// `MULS`
-    Muls,
-    /// `ENC`
-    Enc,
-    /// `ONES`
-    Ones,
-    /// `ROR`
-    Ror,
-    /// `ROL`
-    Rol,
-    /// `SHR`
-    Shr,
-    /// `SHL`
-    Shl,
-    /// `RCR`
-    Rcr,
-    /// `RCL`
-    Rcl,
-    /// `SAR`
-    Sar,
-    /// `REV`
-    Rev,
-    /// `MINS`
-    Mins,
-    /// `MAXS`
-    Maxs,
-    /// `MIN`
-    Min,
-    /// `MAX`
-    Max,
-    /// `MOVS`
-    Movs,
-    /// `MOVD`
-    Movd,
-    /// `MOVI`
-    Movi,
-    /// `JMPRET`
-    Jmpret,
-    /// `ANDN`
-    Andn,
-    /// `XOR`
-    Xor,
-    /// `MUXC`
-    Muxc,
-    /// `MUXNC`
-    Muxnc,
-    /// `MUXZ`
-    Muxz,
-    /// `MUXNZ`
-    Muxnz,
-    /// `ADD`
-    Add,
-    /// `SUB`
-    Sub,
-    /// `ADDABS`
-    Addabs,
-    /// `SUBABS`
-    Subabs,
-    /// `SUMC`
-    Sumc,
-    /// `SUMNC`
-    Sumnc,
-    /// `SUMZ`
-    Sumz,
-    /// `SUMNZ`
-    Sumnz,
-    /// `MOV`
-    Mov,
-    /// `NEG`
-    Neg,
-    /// `ABS`
-    Abs,
-    /// `ABSNEG`
-    Absneg,
-    /// `NEGC`
-    Negc,
-    /// `NEGNC`
-    Negnc,
-    /// `NEGZ`
-    Negz,
-    /// `NEGNZ`
-    Negnz,
-    /// `CMPS`
-    Cmps,
-    /// `CMPSX`
-    Cmpsx,
-    /// `ADDX`
-    Addx,
-    /// `SUBX`
-    Subx,
-    /// `ADDS`
-    Adds,
-    /// `SUBS`
-    Subs,
-    /// `ADDSX`
-    Addsx,
-    /// `SUBSX`
-    Subsx,
-    /// `CMPSUB`
-    Cmpsub,
-    /// `DJNZ`
-    Djnz,
-    /// `TJNZ`
-    Tjnz,
-    /// `TJZ`
-    Tjz,
-    /// `TEST`
-    Test,
-    /// `TESTN`
-    Testn,
-    /// `CMP`
-    Cmp,
-    /// `CMPX`
-    Cmpx,
-    /// `JMP`
-    Jmp,
-    /// `RET`
-    Ret,
-    /// `CALL`
-    Call,
-    /// `NOP`
-    Nop,
+    Rdbyte, Rdword, Rdlong, Wrbyte, Wrword, Wrlong, Hubop, Mul, Muls, Enc, Ones, Ror, Rol, Shr, Shl, Rcr, Rcl, Sar, Rev, Mins, Maxs, Min, Max, Movs,
+    Movd, Movi, Jmpret, Andn, Xor, Muxc, Muxnc, Muxz, Muxnz, Add, Sub, Addabs, Subabs, Sumc, Sumnc, Sumz, Sumnz, Mov, Neg, Abs, Absneg, Negc, Negnc,
+    Negz, Negnz, Cmps, Cmpsx, Addx, Subx, Adds, Subs, Addsx, Subsx, Cmpsub, Djnz, Tjnz, Tjz, Test, Testn, Cmp, Cmpx, Jmp, Ret, Call, Nop,
     // Effects of an instruction.
-    /// `WZ`
-    Wz,
-    /// `WC`
-    Wc,
-    /// `WR`
-    Wr,
-    /// `NR`
-    Nr,
+    Wz, Wc, Wr, Nr,
     // Conditions of an instruction; most have other spellings too.
-    /// `IF_ALWAYS`
-    IfAlways,
-    /// `IF_NEVER`
-    IfNever,
-    /// `IF_E`, `IF_Z`
-    IfE,
-    /// `IF_NE`, `IF_NZ`
-    IfNe,
-    /// `IF_A`, `IF_NC_AND_NZ`, `IF_NZ_AND_NC`
-    IfA,
-    /// `IF_B`, `IF_C`
-    IfB,
-    /// `IF_AE`, `IF_NC`
-    IfAe,
-    /// `IF_BE`, `IF_C_OR_Z`, `IF_Z_OR_C`
-    IfBe,
-    /// `IF_NC_AND_Z`, `IF_Z_AND_NC`
-    IfNcAndZ,
-    /// `IF_C_AND_NZ`, `IF_NZ_AND_C`
-    IfCAndNz,
-    /// `IF_C_AND_Z`, `IF_Z_AND_C`
-    IfCAndZ,
-    /// `IF_C_EQ_Z`, `IF_Z_EQ_C`
-    IfCEqZ,
-    /// `IF_C_NE_Z`, `IF_Z_NE_C`
-    IfCNeZ,
-    /// `IF_C_OR_NZ`, `IF_NZ_OR_C`
-    IfCOrNz,
-    /// `IF_NC_OR_Z`, `IF_Z_OR_NC`
-    IfNcOrZ,
-    /// `IF_NC_OR_NZ`, `IF_NZ_OR_NC`
-    IfNcOrNz,
+    IfAlways, IfNever, IfE, IfNe, IfA, IfB, IfAe, IfBe, IfNcAndZ, IfCAndNz, IfCAndZ, IfCEqZ, IfCNeZ, IfCOrNz, IfNcOrZ, IfNcOrNz,
     // What is neither a symbol nor reserved.
-    /// a name that isn't reserved
-    Name,
-    /// a number
-    Number,
-    /// a floating-point number
-    FloatNumber,
-    /// a string
-    Str,
-    /// the end of a line
-    LineEnd,
+    Name, Number, FloatNumber, Str, LineEnd,
 }
 
 // The word of the row of this number.

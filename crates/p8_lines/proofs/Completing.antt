@@ -105,7 +105,7 @@ abbrev a_word_of : Word → LineToken
 a_word_of w = record { place = somewhere; text = spelling w; kind = kind.Name }
 
 reserved_word : (w : Word) → 0 < length (map capital (spelling w)) → IsTrue (is_spelled w (map capital (spelling w))) → tokens.word (a_word_of w) ≡ w
-reserved_word w n h = ap (λ o. unwrap_or o word.Name) (read_back w (map capital (spelling w)) n h)
+reserved_word w n h = ap (λ o. unwrap_or o word.Name) (read_back w (map capital (spelling w)) h)
 
 an_else_word : tokens.word (a_word_of word.Else) ≡ word.Else
 an_else_word = reserved_word word.Else (omega arith) refl

@@ -75,7 +75,8 @@ choices state.ObjColon = tokens (word.Colon ⇒ state.ObjFile ∷ [])
 choices state.ObjFile = tokens (any sign.Text state.LineEnd ∷ [])
 -- PUB and PRI: a name, parameters in parentheses, `: name` for the result and `| name, name[e]` for locals.
 choices state.MethodName = tokens (word.Name ⇒ state.MethodNamed ∷ [])
-choices state.MethodNamed = tokens (word.LeftParenthesis ⇒ state.Parameter ∷ word.Colon ⇒ state.ResultName ∷ word.BitOr ⇒ state.Local ∷ word.LineEnd ⇒ state.End ∷ [])
+choices state.MethodNamed = tokens (word.LeftParenthesis ⇒ state.Parameter ∷ word.Colon ⇒ state.ResultName ∷ word.BitOr ⇒ state.Local ∷
+    word.LineEnd ⇒ state.End ∷ [])
 choices state.Parameter = tokens (word.Name ⇒ state.MoreParameters ∷ [])
 choices state.MoreParameters = tokens (word.Comma ⇒ state.Parameter ∷ word.RightParenthesis ⇒ state.Parameters ∷ [])
 choices state.Parameters = tokens (word.Colon ⇒ state.ResultName ∷ word.BitOr ⇒ state.Local ∷ word.LineEnd ⇒ state.End ∷ [])
@@ -86,19 +87,33 @@ choices state.LocalNamed = tokens (word.LeftBracket ⇒ state.LocalCount ∷ wor
 choices state.LocalCount = expression (outer in_method (word.RightBracket ⇒ state.MoreLocals ∷ []))
 choices state.MoreLocals = tokens (word.Comma ⇒ state.Local ∷ word.LineEnd ⇒ state.End ∷ [])
 -- DAT: an optional label, then data, ORG, RES, FIT or an instruction.
-choices state.DatHead = tokens (word.LineEnd ⇒ state.End ∷ word.Name ⇒ state.DatBody ∷ word.Colon ⇒ state.DatLabel ∷ any sign.Size state.FirstData ∷ word.Org ⇒ state.DatValue ∷ word.Res ⇒ state.DatValue ∷ word.Fit ⇒ state.DatValue ∷ any sign.Condition state.Conditioned ∷ any sign.TwoOperands state.Destination ∷ any sign.Memory state.MemoryDestination ∷ any sign.OneOperand state.OnlyDestination ∷ word.Jmp ⇒ state.Source ∷ word.Call ⇒ state.CallHash ∷ word.Ret ⇒ state.Effects ∷ word.Nop ⇒ state.LineEnd ∷ [])
-choices state.DatLine = tokens (word.Name ⇒ state.DatBody ∷ word.Colon ⇒ state.DatLabel ∷ any sign.Size state.FirstData ∷ word.Org ⇒ state.DatValue ∷ word.Res ⇒ state.DatValue ∷ word.Fit ⇒ state.DatValue ∷ any sign.Condition state.Conditioned ∷ any sign.TwoOperands state.Destination ∷ any sign.Memory state.MemoryDestination ∷ any sign.OneOperand state.OnlyDestination ∷ word.Jmp ⇒ state.Source ∷ word.Call ⇒ state.CallHash ∷ word.Ret ⇒ state.Effects ∷ word.Nop ⇒ state.LineEnd ∷ [])
+choices state.DatHead = tokens (word.LineEnd ⇒ state.End ∷ word.Name ⇒ state.DatBody ∷ word.Colon ⇒ state.DatLabel ∷ any sign.Size state.FirstData ∷
+    word.Org ⇒ state.DatValue ∷ word.Res ⇒ state.DatValue ∷ word.Fit ⇒ state.DatValue ∷ any sign.Condition state.Conditioned ∷
+    any sign.TwoOperands state.Destination ∷ any sign.Memory state.MemoryDestination ∷ any sign.OneOperand state.OnlyDestination ∷
+    word.Jmp ⇒ state.Source ∷ word.Call ⇒ state.CallHash ∷ word.Ret ⇒ state.Effects ∷ word.Nop ⇒ state.LineEnd ∷ [])
+choices state.DatLine = tokens (word.Name ⇒ state.DatBody ∷ word.Colon ⇒ state.DatLabel ∷ any sign.Size state.FirstData ∷ word.Org ⇒ state.DatValue ∷
+    word.Res ⇒ state.DatValue ∷ word.Fit ⇒ state.DatValue ∷ any sign.Condition state.Conditioned ∷ any sign.TwoOperands state.Destination ∷
+    any sign.Memory state.MemoryDestination ∷ any sign.OneOperand state.OnlyDestination ∷ word.Jmp ⇒ state.Source ∷ word.Call ⇒ state.CallHash ∷
+    word.Ret ⇒ state.Effects ∷ word.Nop ⇒ state.LineEnd ∷ [])
 choices state.DatLabel = tokens (any sign.Label state.DatBody ∷ [])
-choices state.DatBody = tokens (word.LineEnd ⇒ state.End ∷ any sign.Size state.FirstData ∷ word.Org ⇒ state.DatValue ∷ word.Res ⇒ state.DatValue ∷ word.Fit ⇒ state.DatValue ∷ any sign.Condition state.Conditioned ∷ any sign.TwoOperands state.Destination ∷ any sign.Memory state.MemoryDestination ∷ any sign.OneOperand state.OnlyDestination ∷ word.Jmp ⇒ state.Source ∷ word.Call ⇒ state.CallHash ∷ word.Ret ⇒ state.Effects ∷ word.Nop ⇒ state.LineEnd ∷ [])
+choices state.DatBody = tokens (word.LineEnd ⇒ state.End ∷ any sign.Size state.FirstData ∷ word.Org ⇒ state.DatValue ∷ word.Res ⇒ state.DatValue ∷
+    word.Fit ⇒ state.DatValue ∷ any sign.Condition state.Conditioned ∷ any sign.TwoOperands state.Destination ∷
+    any sign.Memory state.MemoryDestination ∷ any sign.OneOperand state.OnlyDestination ∷ word.Jmp ⇒ state.Source ∷ word.Call ⇒ state.CallHash ∷
+    word.Ret ⇒ state.Effects ∷ word.Nop ⇒ state.LineEnd ∷ [])
 choices state.DatValue = either (word.LineEnd ⇒ state.End ∷ []) (outer in_dat (word.LineEnd ⇒ state.End ∷ []))
-choices state.FirstData = either (word.LineEnd ⇒ state.End ∷ any sign.Size state.DataValue ∷ any sign.LongText state.MoreData ∷ []) (outer in_data_item (word.LeftBracket ⇒ state.DataCount ∷ word.Comma ⇒ state.Data ∷ word.LineEnd ⇒ state.End ∷ []))
-choices state.Data = either (any sign.Size state.DataValue ∷ any sign.LongText state.MoreData ∷ []) (outer in_data_item (word.LeftBracket ⇒ state.DataCount ∷ word.Comma ⇒ state.Data ∷ word.LineEnd ⇒ state.End ∷ []))
-choices state.DataValue = either (any sign.LongText state.MoreData ∷ []) (outer in_data_item (word.LeftBracket ⇒ state.DataCount ∷ word.Comma ⇒ state.Data ∷ word.LineEnd ⇒ state.End ∷ []))
+choices state.FirstData = either (word.LineEnd ⇒ state.End ∷ any sign.Size state.DataValue ∷ any sign.LongText state.MoreData ∷ [])
+    (outer in_data_item (word.LeftBracket ⇒ state.DataCount ∷ word.Comma ⇒ state.Data ∷ word.LineEnd ⇒ state.End ∷ []))
+choices state.Data = either (any sign.Size state.DataValue ∷ any sign.LongText state.MoreData ∷ [])
+    (outer in_data_item (word.LeftBracket ⇒ state.DataCount ∷ word.Comma ⇒ state.Data ∷ word.LineEnd ⇒ state.End ∷ []))
+choices state.DataValue = either (any sign.LongText state.MoreData ∷ [])
+    (outer in_data_item (word.LeftBracket ⇒ state.DataCount ∷ word.Comma ⇒ state.Data ∷ word.LineEnd ⇒ state.End ∷ []))
 choices state.DataCount = expression (outer in_dat (word.RightBracket ⇒ state.MoreData ∷ []))
 choices state.MoreData = tokens (word.Comma ⇒ state.Data ∷ word.LineEnd ⇒ state.End ∷ [])
-choices state.Conditioned = tokens (any sign.TwoOperands state.Destination ∷ any sign.Memory state.MemoryDestination ∷ any sign.OneOperand state.OnlyDestination ∷ word.Jmp ⇒ state.Source ∷ word.Call ⇒ state.CallHash ∷ word.Ret ⇒ state.Effects ∷ word.Nop ⇒ state.LineEnd ∷ [])
+choices state.Conditioned = tokens (any sign.TwoOperands state.Destination ∷ any sign.Memory state.MemoryDestination ∷
+    any sign.OneOperand state.OnlyDestination ∷ word.Jmp ⇒ state.Source ∷ word.Call ⇒ state.CallHash ∷ word.Ret ⇒ state.Effects ∷ word.Nop ⇒ state.LineEnd ∷ [])
 choices state.Destination = expression (outer in_dat (word.Comma ⇒ state.Source ∷ []))
-choices state.Source = either (word.Hash ⇒ state.SourceValue ∷ []) (outer in_dat (any sign.Flag state.MoreEffects ∷ any sign.Write state.MoreEffects ∷ word.LineEnd ⇒ state.End ∷ []))
+choices state.Source = either (word.Hash ⇒ state.SourceValue ∷ [])
+    (outer in_dat (any sign.Flag state.MoreEffects ∷ any sign.Write state.MoreEffects ∷ word.LineEnd ⇒ state.End ∷ []))
 choices state.SourceValue = expression (outer in_dat (any sign.Flag state.MoreEffects ∷ any sign.Write state.MoreEffects ∷ word.LineEnd ⇒ state.End ∷ []))
 choices state.MemoryDestination = expression (outer in_dat (word.Comma ⇒ state.MemorySource ∷ []))
 choices state.MemorySource = either (word.Hash ⇒ state.MemorySourceValue ∷ []) (outer in_dat (any sign.Flag state.MoreFlags ∷ word.LineEnd ⇒ state.End ∷ []))
@@ -108,20 +123,25 @@ choices state.CallHash = tokens (word.Hash ⇒ state.CallLabel ∷ [])
 choices state.CallLabel = tokens (word.Name ⇒ state.Effects ∷ word.Colon ⇒ state.CallLocal ∷ [])
 choices state.CallLocal = tokens (any sign.Label state.Effects ∷ [])
 choices state.Effects = tokens (any sign.Flag state.MoreEffects ∷ any sign.Write state.MoreEffects ∷ word.LineEnd ⇒ state.End ∷ [])
-choices state.MoreEffects = tokens (any sign.Flag state.MoreEffects ∷ any sign.Write state.MoreEffects ∷ word.Comma ⇒ state.Effect ∷ word.LineEnd ⇒ state.End ∷ [])
+choices state.MoreEffects = tokens (any sign.Flag state.MoreEffects ∷ any sign.Write state.MoreEffects ∷ word.Comma ⇒ state.Effect ∷
+    word.LineEnd ⇒ state.End ∷ [])
 choices state.Effect = tokens (any sign.Flag state.MoreEffects ∷ any sign.Write state.MoreEffects ∷ [])
 choices state.MoreFlags = tokens (any sign.Flag state.MoreFlags ∷ word.Comma ⇒ state.FlagEffect ∷ word.LineEnd ⇒ state.End ∷ [])
 choices state.FlagEffect = tokens (any sign.Flag state.MoreFlags ∷ [])
 -- Statements: an action is none of these words.
-choices state.Statement = either (word.If ⇒ state.LastValue ∷ word.Ifnot ⇒ state.LastValue ∷ word.Case ⇒ state.LastValue ∷ word.Repeat ⇒ state.Repeat ∷ word.Next ⇒ state.LineEnd ∷ word.Quit ⇒ state.LineEnd ∷ word.Return ⇒ state.MaybeValue ∷ word.Abort ⇒ state.MaybeValue ∷ []) (outer in_action (word.LineEnd ⇒ state.End ∷ []))
+choices state.Statement = either (word.If ⇒ state.LastValue ∷ word.Ifnot ⇒ state.LastValue ∷ word.Case ⇒ state.LastValue ∷
+    word.Repeat ⇒ state.Repeat ∷ word.Next ⇒ state.LineEnd ∷ word.Quit ⇒ state.LineEnd ∷ word.Return ⇒ state.MaybeValue ∷
+    word.Abort ⇒ state.MaybeValue ∷ []) (outer in_action (word.LineEnd ⇒ state.End ∷ []))
 choices state.ChainLine = tokens (word.Else ⇒ state.LineEnd ∷ word.Elseif ⇒ state.LastValue ∷ word.Elseifnot ⇒ state.LastValue ∷ [])
 choices state.LoopEndLine = tokens (word.While ⇒ state.LastValue ∷ word.Until ⇒ state.LastValue ∷ [])
 choices state.LastValue = expression (outer in_method (word.LineEnd ⇒ state.End ∷ []))
-choices state.Repeat = either (word.LineEnd ⇒ state.End ∷ word.While ⇒ state.LastValue ∷ word.Until ⇒ state.LastValue ∷ []) (counting in_method (word.LineEnd ⇒ state.End ∷ []) (word.LineEnd ⇒ state.End ∷ word.From ⇒ state.From ∷ []))
+choices state.Repeat = either (word.LineEnd ⇒ state.End ∷ word.While ⇒ state.LastValue ∷ word.Until ⇒ state.LastValue ∷ [])
+    (counting in_method (word.LineEnd ⇒ state.End ∷ []) (word.LineEnd ⇒ state.End ∷ word.From ⇒ state.From ∷ []))
 choices state.From = expression (outer in_method (word.To ⇒ state.To ∷ []))
 choices state.To = expression (outer in_method (word.Step ⇒ state.LastValue ∷ word.LineEnd ⇒ state.End ∷ []))
 choices state.MaybeValue = either (word.LineEnd ⇒ state.End ∷ []) (outer in_method (word.LineEnd ⇒ state.End ∷ []))
-choices state.CaseItem = either (word.Other ⇒ state.OtherColon ∷ []) (outer in_method (word.DotDot ⇒ state.CaseRange ∷ word.Comma ⇒ state.CaseTest ∷ word.Colon ⇒ state.End ∷ []))
+choices state.CaseItem = either (word.Other ⇒ state.OtherColon ∷ [])
+    (outer in_method (word.DotDot ⇒ state.CaseRange ∷ word.Comma ⇒ state.CaseTest ∷ word.Colon ⇒ state.End ∷ []))
 choices state.CaseTest = expression (outer in_method (word.DotDot ⇒ state.CaseRange ∷ word.Comma ⇒ state.CaseTest ∷ word.Colon ⇒ state.End ∷ []))
 choices state.CaseRange = expression (outer in_method (word.Comma ⇒ state.CaseTest ∷ word.Colon ⇒ state.End ∷ []))
 choices state.OtherColon = tokens (word.Colon ⇒ state.End ∷ [])

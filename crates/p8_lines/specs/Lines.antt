@@ -54,8 +54,11 @@ piece_in q t = piece t
 -- From a state on, these tokens are a line, or what is left of one, and these are its pieces.
 pub data Row : State → List Piece → List LineToken → Type 0 where
   over : Row state.End [] []
-  token : {q r : State} {row : List Piece} {t : LineToken} {ts : List LineToken} → Follows (choices q).arrows t r → Row r row ts → Row q (piece_in q t ∷ row) (t ∷ ts)
-  phrase : {q r : State} {h : Phrase} {e : Tree} {row : List Piece} {first t : LineToken} (others : List LineToken) {ts : List LineToken} → (choices q).phrase ≡ Some h → IsExpression h.setting e (terms (first ∷ others)) → Follows (behind h (first ∷ others)) t r → Row r row ts → Row q (tree e first.place ∷ piece t ∷ row) ((first ∷ others) ++ t ∷ ts)
+  token : {q r : State} {row : List Piece} {t : LineToken} {ts : List LineToken} → Follows (choices q).arrows t r → Row r row ts →
+      Row q (piece_in q t ∷ row) (t ∷ ts)
+  phrase : {q r : State} {h : Phrase} {e : Tree} {row : List Piece} {first t : LineToken} (others : List LineToken) {ts : List LineToken} →
+      (choices q).phrase ≡ Some h → IsExpression h.setting e (terms (first ∷ others)) → Follows (behind h (first ∷ others)) t r → Row r row ts →
+      Row q (tree e first.place ∷ piece t ∷ row) ((first ∷ others) ++ t ∷ ts)
 
 -- some line, or what is left of one, begins with these tokens
 abbrev pub Begins : State → List LineToken → Type 0
@@ -64,8 +67,11 @@ Begins q ts = (rest : List LineToken) × (row : List Piece) × Row q row (ts ++ 
 -- These tokens lead from one state to another, as these pieces; no expression among them is too high.
 pub data Leads : State → List LineToken → List Piece → State → Type 0 where
   nowhere : {q : State} → Leads q [] [] q
-  by_token : {q r s : State} {row : List Piece} {t : LineToken} {ts : List LineToken} → Follows (choices q).arrows t r → Leads r ts row s → Leads q (t ∷ ts) (piece_in q t ∷ row) s
-  by_phrase : {q r s : State} {h : Phrase} {e : Tree} {row : List Piece} {first t : LineToken} (others : List LineToken) {ts : List LineToken} → (choices q).phrase ≡ Some h → IsExpression h.setting e (terms (first ∷ others)) → height e ≤ greatest_height → Follows (behind h (first ∷ others)) t r → Leads r ts row s → Leads q ((first ∷ others) ++ t ∷ ts) (tree e first.place ∷ piece t ∷ row) s
+  by_token : {q r s : State} {row : List Piece} {t : LineToken} {ts : List LineToken} → Follows (choices q).arrows t r → Leads r ts row s →
+      Leads q (t ∷ ts) (piece_in q t ∷ row) s
+  by_phrase : {q r s : State} {h : Phrase} {e : Tree} {row : List Piece} {first t : LineToken} (others : List LineToken) {ts : List LineToken} →
+      (choices q).phrase ≡ Some h → IsExpression h.setting e (terms (first ∷ others)) → height e ≤ greatest_height →
+      Follows (behind h (first ∷ others)) t r → Leads r ts row s → Leads q ((first ∷ others) ++ t ∷ ts) (tree e first.place ∷ piece t ∷ row) s
 
 -- some of these tokens, from the first one, begin an expression, and each that begins so is too high
 pub record IsTooHigh (h : Phrase) (ts : List LineToken) : Type 0 where
@@ -102,9 +108,11 @@ pub data Outcome : Type 0 where
 pub data Reads (q : State) (ts : List LineToken) : Outcome → Type 0 where
   line : {row : List Piece} {us rest : List LineToken} → ts ≡ us ++ rest → Leads q us row state.End → Reads q ts (read row rest)
   -- the first expression, or action, that is too high is refused at its first token
-  too_high : {row : List Piece} {us vs : List LineToken} {t : LineToken} {r : State} {h : Phrase} → ts ≡ us ++ t ∷ vs → Leads q us row r → (choices r).phrase ≡ Some h → IsTooHigh h (t ∷ vs) → Reads q ts (refused (refusal_number TooNested) t.place)
+  too_high : {row : List Piece} {us vs : List LineToken} {t : LineToken} {r : State} {h : Phrase} → ts ≡ us ++ t ∷ vs → Leads q us row r →
+      (choices r).phrase ≡ Some h → IsTooHigh h (t ∷ vs) → Reads q ts (refused (refusal_number TooNested) t.place)
   -- the first token with which the tokens up to it begin no line, where those before it are no line
-  stopped : {us : List LineToken} (t : LineToken) (vs : List LineToken) → ts ≡ us ++ t ∷ vs → Begins q us → ((row : List Piece) → ¬ Row q row us) → ¬ Begins q (us ++ t ∷ []) → ¬ HasTooHigh q us → Reads q ts (refused (number_of (setting_at q) (word t)) t.place)
+  stopped : {us : List LineToken} (t : LineToken) (vs : List LineToken) → ts ≡ us ++ t ∷ vs → Begins q us → ((row : List Piece) → ¬ Row q row us) →
+      ¬ Begins q (us ++ t ∷ []) → ¬ HasTooHigh q us → Reads q ts (refused (number_of (setting_at q) (word t)) t.place)
 
 -- tokens are read in one way
 abbrev pub OneReading : Type 0

@@ -28,8 +28,10 @@ FitsSetting s q = (h : Phrase) → (choices q).phrase ≡ Some h → (w : Word) 
 
 -- Reading stops so at a state, in a line of this setting.
 pub data Stops (s : Setting) (q : State) (ts : List LineToken) : ℕ → Place → Type 0 where
-  too_high : {h : Phrase} {t : LineToken} {vs : List LineToken} → ts ≡ t ∷ vs → (choices q).phrase ≡ Some h → IsTooHigh h (t ∷ vs) → Stops s q ts (refusal_number TooNested) t.place
-  stopped : {us : List LineToken} (t : LineToken) (vs : List LineToken) → ts ≡ us ++ t ∷ vs → Begins q us → ((row : List Piece) → ¬ Row q row us) → ¬ Begins q (us ++ t ∷ []) → ¬ HasTooHigh q us → Stops s q ts (number_of s (word t)) t.place
+  too_high : {h : Phrase} {t : LineToken} {vs : List LineToken} → ts ≡ t ∷ vs → (choices q).phrase ≡ Some h → IsTooHigh h (t ∷ vs) →
+      Stops s q ts (refusal_number TooNested) t.place
+  stopped : {us : List LineToken} (t : LineToken) (vs : List LineToken) → ts ≡ us ++ t ∷ vs → Begins q us → ((row : List Piece) → ¬ Row q row us) →
+      ¬ Begins q (us ++ t ∷ []) → ¬ HasTooHigh q us → Stops s q ts (number_of s (word t)) t.place
 
 -- the tokens of these numbers lead from one state to another
 pub record Goes (bytes : List ℕ) (tokens : List lexer_token.Token) (at end : ℕ) (q : State) (row : List Piece) (r : State) : Type 0 where

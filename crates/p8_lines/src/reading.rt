@@ -1,5 +1,6 @@
 // Reading a line.
-ghost use Rattle.std.specs.Prelude.{◌≡◌, ◌≢◌, ℕ, ◌+◌, ◌-◌, ◌<◌, ◌≤◌, ◌++◌, ◌∷◌, [], IfOk, IfErr, MatchOption, IsTrue, ◌↔◌, map, length, Some, option_map, unwrap_or};
+ghost use Rattle.std.specs.Prelude.{◌≡◌, ◌≢◌, ℕ, ◌+◌, ◌-◌, ◌<◌, ◌≤◌, ◌++◌, ◌∷◌, [], IfOk, IfErr, MatchOption, IsTrue, ◌↔◌, map, length, Some};
+ghost use Rattle.std.specs.Prelude.{option_map, unwrap_or};
 ghost use Rattle.p8_tree.specs.Views.{tree_of};
 ghost use Rattle.p8_tree.specs.Faults.{IfRefused};
 ghost use Rattle.p8_grammar.specs.Lexemes.{name_in};
@@ -153,7 +154,8 @@ fn read_tree(
     requires expects { option_map (λ h. h.setting) (choices state).phrase ≡ Some (setting_of setting) }
     ensures ordered { IfOk result (λ r. at ≤ r.1) }
     ensures within { IfOk result (λ r. r.1 ≤ length tokens.now) }
-    ensures read { (h : Phrase) → (choices state).phrase ≡ Some h → IfOk result (λ r. Parses h.setting greatest_height bytes.now tokens.now at (tree (tree_of r.0) r.1)) }
+    ensures read { (h : Phrase) → (choices state).phrase ≡ Some h →
+        IfOk result (λ r. Parses h.setting greatest_height bytes.now tokens.now at (tree (tree_of r.0) r.1)) }
     ensures stops { IfErr result (IfRefused (λ fault. Stops (setting_of line) state (tokens_from bytes.now tokens.now at) fault.number fault.place)) }
 {
     match parse_expr_in(alloc, bytes, tokens, at, setting, GREATEST_HEIGHT) {

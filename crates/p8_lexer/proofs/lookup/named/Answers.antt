@@ -1,6 +1,6 @@
-use Rattle.std.proofs.Common.{map, refl, sym, ap, ◌∙◌}
+use Rattle.std.proofs.Common.{◌∙◌, ap, sym, refl}
 use Rattle.p8_lexer.specs.Words.{capital, word_spelled}
-use Rattle.p8_lexer.specs.Table.{rows_from, word_in}
+use Rattle.p8_lexer.specs.Table.{key}
 use Rattle.p8_lexer.proofs.Searches.{empty_is_none, named_is, nonempty}
 use Rattle.p8_lexer.proofs.lookup.named.Goals as goal
 
@@ -9,5 +9,5 @@ returns-then-is_empty c = sym (ap word_spelled (c.if-is_empty.ensures.0 refl) �
 
 pub returns : goal.returns
 returns c =
-    named_is c.args.text.now c.word_in.result (nonempty c.args.text.now (λ e. let no = c.if-is_empty.ensures.1 e in cc))
-    (c.word_in.ensures ∙ ap (λ rows. word_in rows (map capital c.args.text.now)) (c.rows_from.ensures ∙ ap rows_from c.at.ensures))
+    named_is c.args.text.now _ c.numbers_at-numbers.result.now c.key.result c.capital.result c.word_in.result (nonempty c.args.text.now (λ e. let no = c.if-is_empty.ensures.1 e in cc))
+    (c.capital.ensures ∙ ap capital c.at.ensures) (c.key.ensures.value ∙ ap (key c.capital.result) c.len.ensures) c.numbers_at-numbers.ensures c.table.ensures.words c.word_in.ensures
