@@ -1,8 +1,3 @@
-pub mod Bytes
-pub mod ValueRows
-pub mod Judging
-pub mod Judged
-pub mod Agreeing
 pub mod Alike
 pub mod Methods
 pub mod Rows

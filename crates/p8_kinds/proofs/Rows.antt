@@ -11,7 +11,7 @@ use Rattle.p8_tree.specs.Views.{tree_of, trees_of, item_of, items_of}
 use Rattle.p8_tree.specs.Bridges.{trees_of-push, items_of-push, tree_list_of}
 use Rattle.p8_tree.specs.declared.faults.Fault.{Fault}
 use Rattle.p8_tree.specs.Faults.{IsFirstFault, first_of_two}
-use Rattle.p8_kinds.proofs.Judging.{Tells}
+use Rattle.p8_fold.proofs.Judging.{Tells}
 use Rattle.p8_kinds.specs.Misuses.{Rule}
 use Rattle.p8_kinds.specs.FirstMisuses.{first_in, first_in_item, first_in_trees, first_in_items}
 

@@ -6,10 +6,10 @@ use Rattle.p8_tree.specs.declared.places.Place.{Place}
 use Rattle.p8_tree.specs.Expressions.{Tree, node, Form, Number, Str, Strings, Here, Var, Call, Unary, Binary, Assign, Change, Address, ObjectAddress, ObjConst, Built, Look, Variable, Named, Part, Memory, Register, Index, no_index, index, Bits, whole, bits, Item, single, range, Trees, no_trees, ◌▷◌, Items, no_items, ◌▸◌}
 use Rattle.p8_tree.specs.Statements.{Course, Forever, Count, Before, After, From, Statement, statement, Action, Do, If, Case, Repeat, Next, Quit, Return, Abort, Arm, arm, Otherwise, nothing_else, otherwise, Statements, no_statements, ◌▹◌, Arms, no_arms, ◌⊳◌}
 use Rattle.p8_tree.specs.declared.faults.Fault.{Fault}
-use Rattle.p8_kinds.specs.Values.{FaultInTrees, FaultInText}
-use Rattle.p8_kinds.specs.Verdicts as verdicts
-use Rattle.p8_kinds.proofs.Judging.{Tells, tells, two_told, own_told}
-use Rattle.p8_kinds.proofs.Judged as judged
+use Rattle.p8_fold.specs.Values.{FaultInTrees, FaultInText}
+use Rattle.p8_fold.specs.Verdicts as verdicts
+use Rattle.p8_fold.proofs.Judging.{Tells, tells, two_told, own_told}
+use Rattle.p8_fold.proofs.Judged as judged
 use Rattle.p8_kinds.specs.declared.uses.Use.TheVariants as used
 use Rattle.p8_kinds.specs.Environments.{Environment, kind_in}
 use Rattle.p8_kinds.specs.Misuses.{Rule, in_method, misuse, name_alone, BrokenIn, BrokenInside, BrokenInVariable, BrokenInIndex, BrokenInBits, BrokenInItem, BrokenInTrees, BrokenInItems, MisuseDone, MisuseInOption, MisuseInCourse, MisuseInStatements, MisuseInStatement, MisuseInAction, MisuseInArm, MisuseInOtherwise, MisuseInArms}

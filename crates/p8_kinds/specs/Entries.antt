@@ -3,7 +3,7 @@ use Rattle.std.specs.Prelude.{ℕ, List, Option, Some, None, Vec}
 use Rattle.std.specs.BTreeMap.{BTreeMap, get}
 use Rattle.std.specs.Ordering.{nat_cmp}
 use Rattle.std.specs.declared.alloc.Global.{Global}
-use Rattle.p8_kinds.specs.ConstantEntries as entries
+use Rattle.p8_fold.specs.ConstantEntries as entries
 use Rattle.p8_kinds.specs.declared.name_kinds.NameKind.{NameKind}
 
 abbrev pub Names : Type 0

@@ -1,11 +1,14 @@
 -- internal: what the code computes, the first fault of each part.
 use Rattle.std.specs.Prelude.{ℕ, if◌then◌else◌, List, Option, Some, None}
 use Rattle.p8_tree.specs.declared.places.Place.{Place}
-use Rattle.p8_tree.specs.Expressions.{Tree, node, Form, Number, Str, Strings, Here, Var, Call, Unary, Binary, Assign, Change, Address, ObjectAddress, ObjConst, Built, Look, Variable, Named, Part, Memory, Register, Index, no_index, index, Bits, whole, bits, Item, single, range, Trees, no_trees, ◌▷◌, Items, no_items, ◌▸◌}
-use Rattle.p8_tree.specs.Statements.{Course, Forever, Count, Before, After, From, Statement, statement, Action, Do, If, Case, Repeat, Next, Quit, Return, Abort, Arm, arm, Otherwise, nothing_else, otherwise, Statements, no_statements, ◌▹◌, Arms, no_arms, ◌⊳◌}
+use Rattle.p8_tree.specs.Expressions.{Tree, node, Form, Number, Str, Strings, Here, Var, Call, Unary, Binary, Assign, Change, Address, ObjectAddress}
+use Rattle.p8_tree.specs.Expressions.{ObjConst, Built, Look, Variable, Named, Part, Memory, Register, Index, no_index, index, Bits, whole, bits}
+use Rattle.p8_tree.specs.Expressions.{Item, single, range, Trees, no_trees, ◌▷◌, Items, no_items, ◌▸◌}
+use Rattle.p8_tree.specs.Statements.{Course, Forever, Count, Before, After, From, Statement, statement, Action, Do, If, Case, Repeat, Next, Quit}
+use Rattle.p8_tree.specs.Statements.{Return, Abort, Arm, arm, Otherwise, nothing_else, otherwise, Statements, no_statements, ◌▹◌, Arms, no_arms, ◌⊳◌}
 use Rattle.p8_tree.specs.declared.faults.Fault.{Fault}
 use Rattle.p8_tree.specs.Faults.{first_of_two}
-use Rattle.p8_kinds.specs.Verdicts as verdicts
+use Rattle.p8_fold.specs.Verdicts as verdicts
 use Rattle.p8_kinds.specs.declared.rules.Rules.{Rules}
 use Rattle.p8_kinds.specs.declared.rules.Rules.TheVariants as rules_case
 use Rattle.p8_kinds.specs.declared.uses.Use.TheVariants as used
@@ -84,7 +87,8 @@ first_in_course env (Count e) = first_in (in_method env) e
 first_in_course env (Before until e) = first_in (in_method env) e
 first_in_course env (After until e) = first_in (in_method env) e
 first_in_course env (From name a b step place) =
-    first_of_two (misuse used.Variable (kind_in env name) place) (first_of_two (first_of_two (first_in (in_method env) a) (first_in (in_method env) b)) (first_in_option env step))
+    first_of_two (misuse used.Variable (kind_in env name) place)
+    (first_of_two (first_of_two (first_in (in_method env) a) (first_in (in_method env) b)) (first_in_option env step))
 
 abbrev mutual
   pub first_in_statements : Environment → Statements → Option Fault

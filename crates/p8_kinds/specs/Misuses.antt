@@ -7,14 +7,17 @@
 -- put. Sources: the Propeller Manual v1.2, the Spin chapter; the numbers and places of refusals are this project's profile.
 use Rattle.std.specs.Prelude.{◌≡◌, ◌⊎◌, ℕ, Bool, false, ◌==◌, not, IsTrue, List, Option, Some, None, is_some, option_map}
 use Rattle.p8_tree.specs.declared.places.Place.{Place}
-use Rattle.p8_tree.specs.Expressions.{Tree, node, Form, Number, Str, Strings, Here, Var, Call, Unary, Binary, Assign, Change, Address, ObjectAddress, ObjConst, Built, Look, Variable, Named, Part, Memory, Register, Index, no_index, index, Bits, whole, bits, Item, single, range, Trees, no_trees, ◌▷◌, Items, no_items, ◌▸◌}
-use Rattle.p8_tree.specs.Statements.{Course, Forever, Count, Before, After, From, Statement, statement, Action, Do, If, Case, Repeat, Next, Quit, Return, Abort, Arm, arm, Otherwise, nothing_else, otherwise, Statements, no_statements, ◌▹◌, Arms, no_arms, ◌⊳◌}
+use Rattle.p8_tree.specs.Expressions.{Tree, node, Form, Number, Str, Strings, Here, Var, Call, Unary, Binary, Assign, Change, Address, ObjectAddress}
+use Rattle.p8_tree.specs.Expressions.{ObjConst, Built, Look, Variable, Named, Part, Memory, Register, Index, no_index, index, Bits, whole, bits}
+use Rattle.p8_tree.specs.Expressions.{Item, single, range, Trees, no_trees, ◌▷◌, Items, no_items, ◌▸◌}
+use Rattle.p8_tree.specs.Statements.{Course, Forever, Count, Before, After, From, Statement, statement, Action, Do, If, Case, Repeat, Next, Quit}
+use Rattle.p8_tree.specs.Statements.{Return, Abort, Arm, arm, Otherwise, nothing_else, otherwise, Statements, no_statements, ◌▹◌, Arms, no_arms, ◌⊳◌}
 use Rattle.p8_tree.specs.Lists.{count_of_trees}
 use Rattle.p8_tree.specs.declared.faults.Fault.{Fault}
 use Rattle.p8_tree.specs.Faults.{fault}
 use Rattle.p8_tree.specs.declared.refusal.Refusal.TheVariants.{Unknown, WrongArity}
-use Rattle.p8_kinds.specs.Meanings.{Setting}
-use Rattle.p8_kinds.specs.Values.{FaultInTrees, FaultInText, where_so}
+use Rattle.p8_fold.specs.Meanings.{Setting}
+use Rattle.p8_fold.specs.Values.{FaultInTrees, FaultInText, where_so}
 use Rattle.p8_kinds.specs.declared.name_kinds.NameKind.{NameKind}
 use Rattle.p8_kinds.specs.declared.name_kinds.NameKind.TheVariants as kind_case
 use Rattle.p8_kinds.specs.declared.uses.Use.{Use}
@@ -35,7 +38,8 @@ misuse_behind env k method arguments first second = misuse used.Object k first
 
 -- `object#name`: the object's name, and then the constant's among those of the object's file
 abbrev pub misuse_of_constant : Environment → Option NameKind → List ℕ → List ℕ → Place → Place → Option Fault
-misuse_of_constant env (Some (kind_case.Object item position count)) object name first second = where_so (not (is_some (env.constants.constant object name))) (fault Unknown second)
+misuse_of_constant env (Some (kind_case.Object item position count)) object name first second = where_so
+    (not (is_some (env.constants.constant object name))) (fault Unknown second)
 misuse_of_constant env k object name first second = misuse used.Object k first
 
 -- ---- in a method

@@ -3,18 +3,17 @@ ghost use Rattle.std.specs.Prelude.{◌≡◌};
 ghost use Rattle.std.specs.Result.{result_err};
 ghost use Rattle.p8_tree.specs.Views.{tree_of, form_of, variable_of, call_of, trees_of, items_of, item_of};
 ghost use Rattle.p8_tree.specs.Bridges.{boxed_index};
-ghost use Rattle.p8_kinds.specs.ConstantEntries.{setting_of};
-ghost use Rattle.p8_kinds.specs.Verdicts as verdicts;
-ghost use Rattle.p8_kinds.specs.Verdicts.{verdict, boxed_bits};
+ghost use Rattle.p8_fold.specs.ConstantEntries.{setting_of};
+ghost use Rattle.p8_fold.specs.Verdicts as verdicts;
+ghost use Rattle.p8_fold.specs.Verdicts.{verdict, boxed_bits};
 ghost use Rattle.p8_kinds.specs.Environments.{environment_of};
-ghost use Rattle.p8_kinds.specs.FirstMisuses.{rule_of, first_in, first_inside, first_in_variable, first_in_index, first_in_bits, first_in_item, first_in_trees, first_in_items, first_in_built, first_in_strings};
+ghost use Rattle.p8_kinds.specs.FirstMisuses.{rule_of, first_in, first_inside, first_in_variable, first_in_index, first_in_bits, first_in_item};
+ghost use Rattle.p8_kinds.specs.FirstMisuses.{first_in_trees, first_in_items, first_in_built, first_in_strings};
 
-use crate::consts::Consts;
 use crate::rules::Rules;
 use crate::scope::Scope;
 use crate::single::{is_constant, own_fault};
-use crate::texts::first_in_text;
-use crate::values::value_of;
+use p8_fold::{Consts, first_in_text, value_of};
 use p8_tree::{Call, Expr, ExprKind, Fault, Item, Target, first_of_two};
 
 // The first fault of an expression that has to be constant.

@@ -19,7 +19,8 @@ use p8_tree::{Expr, Fault, Stmt};
 ///
 /// It takes no memory, and calls go as deep as trees and blocks are.
 pub fn first_misuse(scope: &Scope, body: &[Stmt]) -> Option<Fault>
-    ensures { MatchOption result ((f : Fault) → ¬ MisuseInStatements (environment_of scope.now) (statements_of body.now) f) (IsFirstFault (MisuseInStatements (environment_of scope.now) (statements_of body.now))) }
+    ensures { MatchOption result ((f : Fault) → ¬ MisuseInStatements (environment_of scope.now) (statements_of body.now) f)
+        (IsFirstFault (MisuseInStatements (environment_of scope.now) (statements_of body.now))) }
 {
     first_in_statements(scope, body)
 }
@@ -29,7 +30,8 @@ pub fn first_misuse(scope: &Scope, body: &[Stmt]) -> Option<Fault>
 ///
 /// It takes no memory, and calls go as deep as the tree is high.
 pub fn first_unknown(scope: &Scope, expr: &Expr) -> Option<Fault>
-    ensures { MatchOption result ((f : Fault) → ¬ UnknownIn (environment_of scope.now) (tree_of expr.now) f) (IsFirstFault (UnknownIn (environment_of scope.now) (tree_of expr.now))) }
+    ensures { MatchOption result ((f : Fault) → ¬ UnknownIn (environment_of scope.now) (tree_of expr.now) f)
+        (IsFirstFault (UnknownIn (environment_of scope.now) (tree_of expr.now))) }
 {
     first_in(scope, Rules::Data, expr)
 }

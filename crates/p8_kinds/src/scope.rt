@@ -2,9 +2,9 @@
 ghost use Rattle.std.specs.Prelude.{◌≡◌};
 ghost use Rattle.p8_kinds.specs.Environments.{environment_of, kind_in};
 
-use crate::consts::Consts;
 use crate::kinds::Kinds;
 use crate::name_kinds::NameKind;
+use p8_fold::Consts;
 use p8_tree::Text;
 
 /// What is known of names where a statement or an expression stands.

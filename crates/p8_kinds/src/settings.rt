@@ -1,14 +1,13 @@
 // What the names of a whole file mean where a constant is needed.
 ghost use Rattle.std.specs.Prelude.{◌≡◌, ℕ, List, None, OnOk, IfOk};
-ghost use Rattle.p8_kinds.specs.ConstantEntries.{setting_of};
+ghost use Rattle.p8_fold.specs.ConstantEntries.{setting_of};
 ghost use Rattle.p8_kinds.specs.FileSettings.{meaning_of_kind, named_constant, constant_among, constant_in, file_setting, HasEntered, HasMeaning, IsSettingOf};
 ghost use Rattle.std.specs.Prelude.{slice_get};
 
 use crate::children::{ChildConst, Children};
-use crate::consts::Consts;
 use crate::kinds::{Kinds, Names};
-use crate::meanings::Meaning;
 use crate::name_kinds::NameKind;
+use p8_fold::{Consts, Meaning};
 use p8_tree::Text;
 use p8_words::NoMemory;
 use std::alloc::Global;

@@ -4,7 +4,8 @@ ghost use Rattle.p8_tree.specs.Views.{form_of, variable_of, call_of, trees_of};
 ghost use Rattle.p8_tree.specs.Lists.{count_of_trees};
 ghost use Rattle.p8_kinds.specs.declared.scope.Scope as scopes;
 ghost use Rattle.p8_kinds.specs.Environments.{environment_of, kind_in};
-ghost use Rattle.p8_kinds.specs.Misuses.{misuse, misuse_behind, misuse_of_constant, misuse_of_variable, misuse_of_value, misuse_of_call, misuse_of_arguments, own_misuse, unknown, unknown_variable, unknown_behind, unknown_call, own_unknown};
+ghost use Rattle.p8_kinds.specs.Misuses.{misuse, misuse_behind, misuse_of_constant, misuse_of_variable, misuse_of_value, misuse_of_call};
+ghost use Rattle.p8_kinds.specs.Misuses.{misuse_of_arguments, own_misuse, unknown, unknown_variable, unknown_behind, unknown_call, own_unknown};
 ghost use Rattle.p8_kinds.specs.FirstMisuses.{rule_of};
 
 use crate::name_kinds::NameKind;

@@ -3,7 +3,8 @@ ghost use Rattle.std.specs.Prelude.{◌≡◌, option_map};
 ghost use Rattle.p8_tree.specs.Views.{tree_of, variable_of, course_of, action_of, statement_of, statements_of, arm_of, arms_of};
 ghost use Rattle.p8_kinds.specs.Environments.{environment_of};
 ghost use Rattle.p8_kinds.specs.Misuses.{plain_name, name_alone};
-ghost use Rattle.p8_kinds.specs.FirstMisuses.{first_done, first_in_option, first_in_course, first_in_statements, first_in_statement, first_in_action, first_in_arm, first_in_arms};
+ghost use Rattle.p8_kinds.specs.FirstMisuses.{first_done, first_in_option, first_in_course, first_in_statements, first_in_statement, first_in_action};
+ghost use Rattle.p8_kinds.specs.FirstMisuses.{first_in_arm, first_in_arms};
 
 use crate::expressions::{first_in, first_in_items};
 use crate::rules::Rules;

@@ -3,7 +3,7 @@ use Rattle.std.proofs.lemmas.Grind.{common_steps}
 use Rattle.p8_tree.specs.Views.{form_of, tree_of, trees_of, item_of, items_of}
 use Rattle.p8_tree.specs.Bridges.{strings_is, built_is, look_is}
 use Rattle.p8_tree.specs.Faults.{first_of_two}
-use Rattle.p8_kinds.proofs.ValueRows.{call_form}
+use Rattle.p8_fold.proofs.ValueRows.{call_form}
 use Rattle.p8_kinds.specs.Environments.{environment_of}
 use Rattle.p8_kinds.specs.FirstMisuses.{rule_of, first_in, first_inside, first_in_item, first_in_items, first_in_built, first_in_strings}
 use Rattle.p8_kinds.proofs.Rows.{trees_next, items_next}

@@ -1,10 +1,10 @@
 use Rattle.std.proofs.Common.{◌∙◌}
 use Rattle.p8_tree.specs.Views.{tree_of}
-use Rattle.p8_kinds.specs.ConstantEntries.{setting_of}
-use Rattle.p8_kinds.specs.Values.{value, FaultIn}
-use Rattle.p8_kinds.specs.Verdicts.{verdict}
-use Rattle.p8_kinds.proofs.Judging.{fault_told}
-use Rattle.p8_kinds.proofs.Judged.{judged}
+use Rattle.p8_fold.specs.ConstantEntries.{setting_of}
+use Rattle.p8_fold.specs.Values.{value, FaultIn}
+use Rattle.p8_fold.specs.Verdicts.{verdict}
+use Rattle.p8_fold.proofs.Judging.{fault_told}
+use Rattle.p8_fold.proofs.Judged.{judged}
 use Rattle.p8_kinds.proofs.Rows.{told_alike}
 use Rattle.std.specs.Result.{result_err}
 use Rattle.p8_kinds.proofs.expressions.first_in_constant.Goals as goal

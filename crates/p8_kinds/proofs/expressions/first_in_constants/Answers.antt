@@ -2,9 +2,9 @@ use Rattle.std.proofs.Common.{◌∙◌, ap}
 use Rattle.std.specs.Result.{result_err}
 use Rattle.p8_tree.specs.Views.{tree_of}
 use Rattle.p8_tree.specs.Faults.{first_of_two}
-use Rattle.p8_kinds.specs.ConstantEntries.{setting_of}
-use Rattle.p8_kinds.specs.Verdicts.{verdict}
-use Rattle.p8_kinds.proofs.ValueRows.{trees_next}
+use Rattle.p8_fold.specs.ConstantEntries.{setting_of}
+use Rattle.p8_fold.specs.Verdicts.{verdict}
+use Rattle.p8_fold.proofs.ValueRows.{trees_next}
 use Rattle.p8_kinds.proofs.expressions.first_in_constants.Goals as goal
 
 pub loop-tree-preserved : goal.loop-tree-preserved

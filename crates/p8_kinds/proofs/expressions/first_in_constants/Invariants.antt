@@ -1,7 +1,7 @@
 use Rattle.std.proofs.Common.{◌≡◌, take}
 use Rattle.p8_tree.specs.Views.{trees_of}
-use Rattle.p8_kinds.specs.ConstantEntries.{setting_of}
-use Rattle.p8_kinds.specs.Verdicts.{first_in_trees}
+use Rattle.p8_fold.specs.ConstantEntries.{setting_of}
+use Rattle.p8_fold.specs.Verdicts.{first_in_trees}
 use Rattle.p8_kinds.proofs.expressions.first_in_constants.Given as goal
 
 abbrev pub invariant-loop-tree : goal.invariant-loop-tree

@@ -1,5 +1,5 @@
 use Rattle.std.proofs.Common.{◌≡◌, ◌∙◌, ap, sym, rules, Some}
-use Rattle.p8_kinds.proofs.Bytes.{at_bytes-empty}
+use Rattle.p8_fold.proofs.Bytes.{at_bytes-empty}
 use Rattle.p8_kinds.specs.Entries.{names_at, in_names}
 use Rattle.p8_kinds.proofs.Scopes.{at_other_numbers, at_other_names}
 use Rattle.p8_kinds.proofs.kinds.enter_first.Goals as goal

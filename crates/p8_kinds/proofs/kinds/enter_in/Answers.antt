@@ -1,7 +1,7 @@
 use Rattle.std.proofs.Common.{◌≡◌, ◌∙◌, ap, sym, rules, Some}
 use Rattle.std.specs.BTreeMap.{UpdatesBy}
 use Rattle.std.specs.Ordering.{nat_cmp}
-use Rattle.p8_kinds.proofs.Bytes.{OnErr-to}
+use Rattle.p8_fold.proofs.Bytes.{OnErr-to}
 use Rattle.p8_kinds.specs.Entries.{names_at, in_names}
 use Rattle.p8_kinds.proofs.Scopes.{at_other_numbers, at_other_names, at_all_names}
 use Rattle.p8_kinds.proofs.kinds.enter_in.Goals as goal

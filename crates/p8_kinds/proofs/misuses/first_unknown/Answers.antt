@@ -2,7 +2,7 @@ use Rattle.std.proofs.Common.{sym, subst}
 use Rattle.p8_tree.specs.Views.{tree_of}
 use Rattle.p8_kinds.specs.Environments.{environment_of}
 use Rattle.p8_kinds.specs.Misuses.{in_data, UnknownIn}
-use Rattle.p8_kinds.proofs.Judging.{Tells}
+use Rattle.p8_fold.proofs.Judging.{Tells}
 use Rattle.p8_kinds.proofs.Told.{told, as_match}
 use Rattle.p8_kinds.proofs.misuses.first_unknown.Goals as goal
 

@@ -1,5 +1,5 @@
 use Rattle.std.proofs.Common.{subst}
-use Rattle.p8_kinds.specs.ConstantEntries.{setting_of}
+use Rattle.p8_fold.specs.ConstantEntries.{setting_of}
 use Rattle.p8_kinds.specs.FileSettings.{HasEntered, named_constant}
 use Rattle.p8_kinds.proofs.Tables.{constants_next}
 use Rattle.p8_kinds.proofs.settings.enter_constants.Goals as goal

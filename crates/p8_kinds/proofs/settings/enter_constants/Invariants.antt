@@ -1,5 +1,5 @@
 use Rattle.std.proofs.Common.{take}
-use Rattle.p8_kinds.specs.ConstantEntries.{setting_of}
+use Rattle.p8_fold.specs.ConstantEntries.{setting_of}
 use Rattle.p8_kinds.specs.FileSettings.{constant_among, HasEntered}
 use Rattle.p8_kinds.proofs.settings.enter_constants.Given as goal
 

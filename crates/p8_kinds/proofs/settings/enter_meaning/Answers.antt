@@ -1,6 +1,6 @@
 use Rattle.std.proofs.Common.{Some, ◌∙◌, sym, ap, subst}
 use Rattle.std.proofs.lemmas.Result.{on_ok_weaker}
-use Rattle.p8_kinds.specs.ConstantEntries.{setting_of}
+use Rattle.p8_fold.specs.ConstantEntries.{setting_of}
 use Rattle.p8_kinds.specs.FileSettings.{HasEntered, constant_behind}
 use Rattle.p8_kinds.proofs.Tables.{meaning_entered, entered_nothing, nothing_behind}
 use Rattle.p8_kinds.proofs.settings.enter_meaning.Goals as goal

@@ -1,5 +1,5 @@
 use Rattle.std.proofs.Common.{◌≡◌}
-use Rattle.p8_kinds.specs.ConstantEntries.{setting_of}
+use Rattle.p8_fold.specs.ConstantEntries.{setting_of}
 use Rattle.p8_kinds.proofs.Tables.{IsPartly}
 use Rattle.p8_kinds.proofs.settings.enter_meanings.Given as goal
 

@@ -1,5 +1,5 @@
 use Rattle.std.proofs.Common.{◌≡◌, sym, subst}
-use Rattle.p8_kinds.proofs.ValueRows.{call_form}
+use Rattle.p8_fold.proofs.ValueRows.{call_form}
 use Rattle.p8_kinds.specs.Environments.{environment_of}
 use Rattle.p8_kinds.specs.Misuses.{own_unknown}
 use Rattle.p8_kinds.proofs.single.own_unknown_of_call.Goals as goal

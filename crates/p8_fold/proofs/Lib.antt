@@ -1,0 +1,5 @@
+pub mod Bytes
+pub mod ValueRows
+pub mod Judging
+pub mod Judged
+pub mod Agreeing
