@@ -5,7 +5,7 @@ use Rattle.p8_tree.specs.declared.projects.ProjectFile.{ProjectFile}
 use Rattle.p8_tree.specs.Views.{named_source_of}
 use Rattle.p8_tree.specs.Projects.{NamedSource}
 use Rattle.p8_io.specs.Shelves.{Files}
-use Rattle.p8_objects.specs.Outcomes.{project}
+use Rattle.p8_objects.specs.Growing.{IsProjectOf}
 use Rattle.p8_objects.specs.Projects.{IsIn}
 use Rattle.p8_inputs.specs.declared.program.Format.TheVariants.{Source}
 use Rattle.p8_inputs.specs.declared.stop.Stop.{Stop}
@@ -30,7 +30,7 @@ use Rattle.p8_opt.specs.Shorts.{IsShortImageBuilt, IsShortBuiltTo}
 use Rattle.p8_inputs.specs.Gathered.{StopsAtBuilding, IsImageBuiltBy, AreBuiltBy, IsListingOf}
 use Rattle.p8_inputs.specs.Runs.{HasProperTrees}
 use Rattle.p8_page.specs.Page.{Block}
-use Rattle.p8_inputs.specs.Sources.{GathersTo, IsImageFrom, IsListingFrom, IsMapFrom, IsHintsFrom, IsProjectLegend, AreBlocksOf, AreProjectBlocks, when_built}
+use Rattle.p8_inputs.specs.Sources.{IsImageFrom, IsListingFrom, IsMapFrom, IsHintsFrom, IsProjectLegend, AreBlocksOf, AreProjectBlocks, when_built}
 use Rattle.p8_inputs.specs.Asks.{StopsAtProgram}
 
 -- what is built is built by the choice
@@ -46,7 +46,7 @@ long-parts sources built is = (is.clock, is.built)
 pub short-parts : (sources : List NamedSource) (built : Built) → IsShortBuiltTo sources built → AreBuiltBy true sources built.objects
 short-parts sources built is = (is.clock, is.built)
 
-module _ (files : Files) (short : Bool) (top : List ℕ) (sources : List NamedSource) (gathered : GathersTo files top (project sources)) where
+module _ (files : Files) (short : Bool) (top : List ℕ) (sources : List NamedSource) (gathered : IsProjectOf files top sources) where
   pub image-from : EachTree IsProperFile sources → (image : ImageValue) → IsImageBuiltBy short sources image → HasProperTrees files (Source short) top image.file
   image-from proper image is =
       (sources, is.0.0, is.0.1, record { gathered = gathered; built = is.0.2 }, λ i f stands. proper i f (record { is = stands }), is.0.3)

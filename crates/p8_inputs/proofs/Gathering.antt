@@ -19,6 +19,8 @@ use Rattle.p8_objects.specs.Outcomes.{Outcome, project, refused, missing, failed
 use Rattle.p8_objects.specs.Outcomes as outcomes
 use Rattle.p8_objects.specs.Whole as whole
 use Rattle.p8_names.specs.Mentions as seen
+use Rattle.p8_objects.specs.Growing.{IsProjectOf}
+use Rattle.p8_objects.proofs.Growing.{project-grows}
 use Rattle.p8_inputs.specs.Sources.{GathersTo}
 
 -- an outcome that doesn't depend on what the shelf counts
@@ -36,8 +38,9 @@ recounted files before now b n top o of (outcomes.not_read name calls rose) = ab
 recounted files before now b n top o of (outcomes.mention_refused file f calls has) = outcomes.mention_refused file f calls has
 recounted files before now b n top o of (outcomes.whole calls) = outcomes.whole calls
 
-pub project-gathered : (files : Files) (before now : ℕ) (top : List ℕ) (sources : List NamedSource) → Gathers (shelved files before now) top (project sources) → GathersTo files top (project sources)
-project-gathered files before now top sources comes b n = recounted files before now b n top (project sources) tt comes
+pub project-gathered : (files : Files) (before now : ℕ) (top : List ℕ) (sources : List NamedSource) → Gathers (shelved files before now) top (project sources)
+    → IsProjectOf files top sources
+project-gathered files before now top sources comes = project-grows (shelved files before now) top sources comes
 
 pub refusal-gathered : (files : Files) (before now : ℕ) (top : List ℕ) (file : ReadFile) (f : Fault) → Gathers (shelved files before now) top (refused file f) → GathersTo files top (refused file f)
 refusal-gathered files before now top file f comes b n = recounted files before now b n top (refused file f) tt comes

@@ -12,6 +12,8 @@ use Rattle.p8_objects.specs.declared.fault.ReadFile.{ReadFile}
 use Rattle.p8_objects.specs.Outcomes.{Outcome, project, refused, missing, shelved, Gathers, HasBytes, WasRead, read_as}
 use Rattle.p8_io.specs.Shelves.{AreStartOf}
 use Rattle.p8_objects.specs.Whole.{AreSources, IsOfFiles}
+use Rattle.p8_objects.specs.Growing.{IsProjectOf}
+use Rattle.p8_objects.proofs.Growing.{gathers}
 use Rattle.p8_objects.proofs.Wholes.{whole_project}
 use Rattle.p8_names.specs.Mentions as seen
 use Rattle.p8_build.specs.Builds.{IsBuilt, IsRefusedWith, objects_of}
@@ -22,7 +24,7 @@ use Rattle.p8_hint.specs.Projects.{IsHintsOf}
 use Rattle.p8_opt.specs.Shorts.{IsShortBuilt}
 use Rattle.p8_legend.specs.Projects.{AreSame, IsLegendOf}
 use Rattle.p8_page.specs.Page.{Block, map_block}
-use Rattle.p8_inputs.specs.Sources.{GathersTo, IsBuiltBy, IsBuiltFrom, IsMapFrom, IsHintsFrom, IsProjectLegend, file_blocks, AreBlocksOf, AreProjectBlocks, IsRefusedFrom, while_gathered, when_built, HasOneOutcome}
+use Rattle.p8_inputs.specs.Sources.{IsBuiltBy, IsBuiltFrom, IsMapFrom, IsHintsFrom, IsProjectLegend, file_blocks, AreBlocksOf, AreProjectBlocks, IsRefusedFrom, while_gathered, when_built, HasOneOutcome}
 use Rattle.p8_inputs.proofs.Gathering.{distinct, no_ring}
 use Rattle.p8_inputs.proofs.Mapping.{map-one}
 use Rattle.p8_inputs.proofs.Naming.{same-legend}
@@ -112,20 +114,20 @@ module _ (one : OneGathered) (same : OneBuilt) (refusal : OneRefused) (either : 
   built-or_refused false sources different none c a name f p q = either sources different none c a name f p q
   built-or_refused true sources different none c a name f p q = either sources different none c _ name f (as-it_stands sources c a p) q
 
-  one-project : (top : List ℕ) (a b : List NamedSource) → GathersTo (Some files) top (project a) → GathersTo (Some files) top (project b) → a ≡ b
-  one-project top a b g h = same-project (one files 0 0 top (project a) (project b) (g 0 0) (h 0 0) tt tt)
+  one-project : (top : List ℕ) (a b : List NamedSource) → IsProjectOf (Some files) top a → IsProjectOf (Some files) top b → a ≡ b
+  one-project top a b g h = same-project (one files 0 0 top (project a) (project b) (gathers g 0 0) (gathers h 0 0) tt tt)
 
   one-image : (short : Bool) (top : List ℕ) (some others : List NamedSource) (clock other : Clock) (objects parts : List ObjectPart) → IsBuiltFrom (Some files) short top some clock objects → IsBuiltFrom (Some files) short top others other parts → (some ≡ others) × (clock ≡ other) × (objects ≡ parts)
   one-image short top some others clock other objects parts g h =
       let e : some ≡ others = one-project top some others g.gathered h.gathered in
-      let whole = whole_project (h.gathered 0 0) in
+      let whole = whole_project (gathers h.gathered 0 0) in
       let is = built-one short others (distinct others whole.distinct) (no_ring others whole.no_ring) clock other objects parts (subst (λ s. IsBuiltBy short s clock objects) e g.built) h.built in
       (e, is.0, is.1)
 
   one-map : (top a b : List ℕ) → IsMapFrom (Some files) top a → IsMapFrom (Some files) top b → a ≡ b
   one-map top a b p q =
       let e : p.0 ≡ q.0 = one-project top p.0 q.0 p.1 q.1 in
-      let whole = whole_project (q.1 0 0) in
+      let whole = whole_project (gathers q.1 0 0) in
       let texts : p.2 ≡ q.2 = one-sources files q.0 p.2 q.2 (subst (λ (s : List NamedSource). AreSources (Some files) s p.2) e p.3) q.3 in
       map-one q.2 q.0 (views q.0 (distinct q.0 whole.distinct) (no_ring q.0 whole.no_ring)) a b
       (subst (λ (ts : List (List ℕ)). IsMapOf ts q.0 a) texts (subst (λ (s : List NamedSource). IsMapOf p.2 s a) e p.4)) q.4
@@ -133,7 +135,7 @@ module _ (one : OneGathered) (same : OneBuilt) (refusal : OneRefused) (either : 
   one-blocks : (top : List ℕ) (a b : List Block) → AreProjectBlocks (Some files) top a → AreProjectBlocks (Some files) top b → a ≡ b
   one-blocks top a b p q =
       let e : p.0 ≡ q.0 = one-project top p.0 q.0 p.1 q.1 in
-      let whole = whole_project (q.1 0 0) in
+      let whole = whole_project (gathers q.1 0 0) in
       let texts : p.2 ≡ q.2 = one-sources files q.0 p.2 q.2 (subst (λ (s : List NamedSource). AreSources (Some files) s p.2) e p.3) q.3 in
       let is = subst (λ (ts : List (List ℕ)). AreBlocksOf ts q.0 a) texts (subst (λ (s : List NamedSource). AreBlocksOf p.2 s a) e p.4) in
       let map : is.0 ≡ q.4.0 = map-one q.2 q.0 (views q.0 (distinct q.0 whole.distinct) (no_ring q.0 whole.no_ring)) is.0 q.4.0 is.1 q.4.1 in
@@ -142,7 +144,7 @@ module _ (one : OneGathered) (same : OneBuilt) (refusal : OneRefused) (either : 
   one-hints : (top a b : List ℕ) → IsHintsFrom (Some files) top a → IsHintsFrom (Some files) top b → a ≡ b
   one-hints top a b p q =
       let e : p.0 ≡ q.0 = one-project top p.0 q.0 p.1 q.1 in
-      let whole = whole_project (q.1 0 0) in
+      let whole = whole_project (gathers q.1 0 0) in
       let texts : p.2 ≡ q.2 = one-sources files q.0 p.2 q.2 (subst (λ (s : List NamedSource). AreSources (Some files) s p.2) e p.3) q.3 in
       hints q.2 q.0 (distinct q.0 whole.distinct) (no_ring q.0 whole.no_ring) a b
       (subst (λ (ts : List (List ℕ)). IsHintsOf ts q.0 a) texts (subst (λ (s : List NamedSource). IsHintsOf p.2 s a) e p.4)) q.4
@@ -150,7 +152,7 @@ module _ (one : OneGathered) (same : OneBuilt) (refusal : OneRefused) (either : 
   one-legend : (top : List ℕ) (a b : Legend) → IsProjectLegend (Some files) top a → IsProjectLegend (Some files) top b → a ≡ b
   one-legend top a b p q =
       let e : p.0 ≡ q.0 = one-project top p.0 q.0 p.1 q.1 in
-      let whole = whole_project (q.1 0 0) in
+      let whole = whole_project (gathers q.1 0 0) in
       let texts : p.2 ≡ q.2 = one-sources files q.0 p.2 q.2 (subst (λ (s : List NamedSource). AreSources (Some files) s p.2) e p.3) q.3 in
       same-legend a b
       (legends q.2 q.0 (distinct q.0 whole.distinct) (no_ring q.0 whole.no_ring) a b
@@ -158,28 +160,28 @@ module _ (one : OneGathered) (same : OneBuilt) (refusal : OneRefused) (either : 
 
   not-refused : (short : Bool) (top : List ℕ) (file : ReadFile) (f : Fault) (size : Option Size) (sources : List NamedSource) (clock : Clock) (objects : List ObjectPart) → IsBuiltFrom (Some files) short top sources clock objects → IsRefusedFrom (Some files) top file f size → ⊥
   not-refused short top file f size sources clock objects g (while_gathered h none) =
-      project-not_refused (one files 0 0 top (project sources) (refused file f) (g.gathered 0 0) (h 0 0) tt tt)
+      project-not_refused (one files 0 0 top (project sources) (refused file f) (gathers g.gathered 0 0) (h 0 0) tt tt)
   not-refused short top file f size sources clock objects g (when_built others h told has) =
       let e : others ≡ sources = one-project top others sources h g.gathered in
-      let whole = whole_project (g.gathered 0 0) in
+      let whole = whole_project (gathers g.gathered 0 0) in
       built-or_refused short sources (distinct sources whole.distinct) (no_ring sources whole.no_ring) clock objects file.name f g.built (subst (λ s. IsRefusedWith s file.name f) e told.refused)
 
   missing-or-refused : (before now : ℕ) (top name : List ℕ) (file : ReadFile) (mention : Option Mention) (f : Fault) (size : Option Size) → Gathers (shelved (Some files) before now) top (missing name mention) → IsRefusedFrom (Some files) top file f size → ⊥
   missing-or-refused before now top name file mention f size g (while_gathered h none) =
       missing-not_refused (one files before now top (missing name mention) (refused file f) g (h before now) tt tt)
   missing-or-refused before now top name file mention f size g (when_built sources h refusal has) =
-      project-not_missing (one files before now top (project sources) (missing name mention) (h before now) g tt tt)
+      project-not_missing (one files before now top (project sources) (missing name mention) (gathers h before now) g tt tt)
 
   one-refusal : (top : List ℕ) (a b : ReadFile) (f g : Fault) (s t : Option Size) → IsRefusedFrom (Some files) top a f s → IsRefusedFrom (Some files) top b g t → (a ≡ b) × (f ≡ g) × (s ≡ t)
   one-refusal top a b f k s t (while_gathered g none) (while_gathered h also) =
       with-none (same-refused (one files 0 0 top (refused a f) (refused b k) (g 0 0) (h 0 0) tt tt)) none also
   one-refusal top a b f k s t (while_gathered g none) (when_built sources h told has) =
-      absurd (project-not_refused (one files 0 0 top (project sources) (refused a f) (h 0 0) (g 0 0) tt tt))
+      absurd (project-not_refused (one files 0 0 top (project sources) (refused a f) (gathers h 0 0) (g 0 0) tt tt))
   one-refusal top a b f k s t (when_built sources g told has) (while_gathered h none) =
-      absurd (project-not_refused (one files 0 0 top (project sources) (refused b k) (g 0 0) (h 0 0) tt tt))
+      absurd (project-not_refused (one files 0 0 top (project sources) (refused b k) (gathers g 0 0) (h 0 0) tt tt))
   one-refusal top a b f k s t (when_built some g told has) (when_built sources h other also) =
       let e : some ≡ sources = one-project top some sources g h in
-      let whole = whole_project (h 0 0) in
+      let whole = whole_project (gathers h 0 0) in
       let same = refusal sources (distinct sources whole.distinct) (no_ring sources whole.no_ring) a.name b.name f k s t (subst (λ xs. IsMeasured xs a.name f s) e told) other in
       (same-file files a b same.0 has also, same.1, same.2)
 
@@ -190,7 +192,8 @@ module _ (one : OneGathered) (same : OneBuilt) (refusal : OneRefused) (either : 
     one_blocks = one-blocks;
     one_hints = one-hints;
     one_legend = one-legend;
-    not_missing = λ before now short top name mention sources clock objects g h. project-not_missing (one files before now top (project sources) (missing name mention) (g.gathered before now) h tt tt);
+    not_missing = λ before now short top name mention sources clock objects g h.
+        project-not_missing (one files before now top (project sources) (missing name mention) (gathers g.gathered before now) h tt tt);
     not_refused = not-refused;
     missing_or_refused = missing-or-refused;
     one_missing = λ before now top a b m n g h. same-missing (one files before now top (missing a m) (missing b n) g h tt tt);

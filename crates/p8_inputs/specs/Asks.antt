@@ -16,9 +16,10 @@ use Rattle.p8_inputs.specs.Pages.{AreBlocksFrom}
 use Rattle.p8_page.specs.Page.{Block}
 use Rattle.p8_inputs.specs.Sources.{IsListingFrom, IsMapFrom, IsHintsFrom}
 
--- an ask: for the program of a file, by what the file is taken for; for that with its legend, in which this name stands, where one is asked for; for that with its legend and with what a page shows of its project; for the listing of a source, with its short code where it is short; for the map of a
--- source; for the hints at what is most likely a slip in a source; for the pin script of a file; for the bytes of a history file, whatever they are; or for the bytes of a message, which is to be sent and has at
--- most 5,000
+-- an ask: for the program of a file, by what the file is taken for; for that with its legend, in which this name stands, where one is asked for; for
+-- that with its legend and with what a page shows of its project; for the listing of a source, with its short code where it is short; for the map of
+-- a source; for the hints at what is most likely a slip in a source; for the pin script of a file; for the bytes of a history file, whatever they
+-- are; or for the bytes of a message, which is to be sent and has at most 5,000
 pub data Ask : Type 0 where
   program : Format → (file : List ℕ) → Ask
   viewing : Format → (file : List ℕ) → (name : Option (List ℕ)) → Ask
@@ -30,8 +31,8 @@ pub data Ask : Type 0 where
   history : (file : List ℕ) → Ask
   message : (file : List ℕ) → Ask
 
--- what an ask is given: the bytes of a program, of a listing, of a map, of hints, of a history file or of a message, the bytes of a program with its legend, and with the blocks of its project, or the
--- lines of a pin script
+-- what an ask is given: the bytes of a program, of a listing, of a map, of hints, of a history file or of a message, the bytes of a program with its
+-- legend, and with the blocks of its project, or the lines of a pin script
 pub data Given : Type 0 where
   bytes : List ℕ → Given
   viewed : List ℕ → Legend → Given
@@ -69,7 +70,8 @@ check_asks format file named recorded = run_asks format file named ++ history re
 abbrev pub Gives : Files → Ask → Given → Type 0
 Gives files (program format file) (bytes xs) = IsProgram files format file xs
 Gives files (viewing format file name) (viewed xs legend) = IsProgram files format file xs × IsLegendFrom files format file legend × HasName legend name
-Gives files (paging format file) (paged xs legend blocks) = IsProgram files format file xs × IsLegendFrom files format file legend × AreBlocksFrom files format file blocks
+Gives files (paging format file) (paged xs legend blocks) = IsProgram files format file xs × IsLegendFrom files format file legend ×
+    AreBlocksFrom files format file blocks
 Gives files (listing short file) (bytes xs) = IsListingFrom files short file xs
 Gives files (mapping file) (bytes xs) = IsMapFrom files file xs
 Gives files (hinting file) (bytes xs) = IsHintsFrom files file xs
@@ -170,7 +172,8 @@ StopsAtProgram files before now format file (Unnamed other name) = ⊥
 -- a name is asked for, the program is there with its legend, and nothing of it has that name
 abbrev pub IsUnnamed : Files → Format → (file : List ℕ) → (name : Option (List ℕ)) → Stop → Type 0
 IsUnnamed files format file name (Unnamed other text) =
-    (other ≡ file) × (name ≡ Some text) × ((xs : List ℕ) × IsProgram files format file xs) × ((legend : Legend) × IsLegendFrom files format file legend × (range_in legend text ≡ None))
+    (other ≡ file) × (name ≡ Some text) × ((xs : List ℕ) × IsProgram files format file xs) ×
+    ((legend : Legend) × IsLegendFrom files format file legend × (range_in legend text ≡ None))
 IsUnnamed files format file name _ = ⊥
 
 -- why there is no message in a file: there are no bytes of it, or too many

@@ -6,13 +6,13 @@ use Rattle.p8_tree.specs.Proper.{IsProperFile}
 use Rattle.p8_image.specs.declared.clocks.Clock.{Clock}
 use Rattle.p8_image.specs.declared.parts.ObjectPart.{ObjectPart}
 use Rattle.p8_io.specs.Shelves.{Files}
-use Rattle.p8_objects.specs.Outcomes.{project}
+use Rattle.p8_objects.specs.Growing.{IsProjectOf}
 use Rattle.p8_objects.specs.Whole.{AreDistinct, HaveMentioned, HaveNoRing, EachTree, HasText}
 use Rattle.p8_image.specs.Layout.{image_of}
 use Rattle.p8_image.specs.Loading.{ImageValue, image_in}
 use Rattle.p8_build.specs.Sizes.{IsMeasured}
 use Rattle.p8_image.specs.Listing.{listing_of}
-use Rattle.p8_inputs.specs.Sources.{GathersTo, IsBuiltBy}
+use Rattle.p8_inputs.specs.Sources.{IsBuiltBy}
 use Rattle.p8_inputs.specs.declared.stop.Stop.{Stop}
 use Rattle.p8_inputs.specs.declared.stop.Stop.TheVariants as stop
 
@@ -27,13 +27,14 @@ pub record IsWhole (sources : List NamedSource) : Type 0 where
 
 -- these files are the project of a top file
 pub record IsProject (files : Files) (top : List ℕ) (sources : List NamedSource) : Type 0 where
-  pub gathered : GathersTo files top (project sources)
+  pub gathered : IsProjectOf files top sources
   pub whole : IsWhole sources
 
 -- this image is that of a project
 abbrev pub IsImageBuiltBy : (short : Bool) → List NamedSource → ImageValue → Type 0
 IsImageBuiltBy short sources image =
-    ((clock : Clock) × (objects : List ObjectPart) × IsBuiltBy short sources clock objects × (image.file ≡ image_of clock objects)) × (image ≡ image_in image.file)
+    ((clock : Clock) × (objects : List ObjectPart) × IsBuiltBy short sources clock objects × (image.file ≡ image_of clock objects)) ×
+    (image ≡ image_in image.file)
 
 -- a project is built to these objects
 abbrev pub AreBuiltBy : (short : Bool) → List NamedSource → List ObjectPart → Type 0

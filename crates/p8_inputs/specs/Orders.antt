@@ -2,16 +2,15 @@
 use Rattle.std.specs.Prelude.{ℕ, ◌≡◌, ◌⊎◌, List, [], ◌∷◌}
 use Rattle.p8_tree.specs.Projects.{NamedSource}
 use Rattle.p8_io.specs.Shelves.{Files, Log, WereRead}
-use Rattle.p8_objects.specs.Outcomes.{project}
+use Rattle.p8_objects.specs.Growing.{IsProjectOf}
 use Rattle.p8_objects.specs.Orders.{AreAllRead as FilesAreRead, ReadsInOrder}
 use Rattle.p8_inputs.specs.declared.program.Format.{Format}
 use Rattle.p8_inputs.specs.declared.program.Format.TheVariants.{Source}
 use Rattle.p8_inputs.specs.Asks.{Ask, program, viewing, paging, listing, mapping, hinting, script, history, message, Given, Gives}
-use Rattle.p8_inputs.specs.Sources.{GathersTo}
 
 -- the files of the project of a top file were read, each once, in their order
 abbrev pub IsProjectRead : Files → (top : List ℕ) → (before now : Log) → Type 0
-IsProjectRead files top before now = (sources : List NamedSource) × GathersTo files top (project sources) × FilesAreRead sources before now
+IsProjectRead files top before now = (sources : List NamedSource) × IsProjectOf files top sources × FilesAreRead sources before now
 
 -- all of a program was read: the files of a project, or the one file
 abbrev pub IsProgramRead : Files → Format → (file : List ℕ) → (before now : Log) → Type 0

@@ -9,7 +9,8 @@ use Rattle.p8_io.specs.Shelves.{Files}
 use Rattle.p8_legend.specs.declared.legend.Legend.{Legend}
 use Rattle.p8_objects.specs.declared.fault.Mention.{Mention}
 use Rattle.p8_objects.specs.declared.fault.ReadFile.{ReadFile}
-use Rattle.p8_objects.specs.Outcomes.{Outcome, project, refused, missing, shelved, Gathers, WasRead}
+use Rattle.p8_objects.specs.Outcomes.{Outcome, refused, missing, shelved, Gathers, WasRead}
+use Rattle.p8_objects.specs.Growing.{IsProjectOf}
 use Rattle.p8_objects.specs.Whole.{AreSources}
 use Rattle.p8_build.specs.Builds.{IsBuilt}
 use Rattle.p8_build.specs.Sizes.{IsMeasured}
@@ -32,7 +33,7 @@ IsBuiltBy true sources clock objects = IsShortBuilt sources clock objects
 
 -- the project of a top file has these files, and is built so
 pub record IsBuiltFrom (files : Files) (short : Bool) (top : List ℕ) (sources : List NamedSource) (clock : Clock) (objects : List ObjectPart) : Type 0 where
-  pub gathered : GathersTo files top (project sources)
+  pub gathered : IsProjectOf files top sources
   pub built : IsBuiltBy short sources clock objects
 
 -- these bytes are the image of the project of a top file
@@ -50,17 +51,17 @@ IsListingFrom files short top text =
 -- this text is the map of the project of a top file, by the bytes of its files
 abbrev pub IsMapFrom : Files → (top text : List ℕ) → Type 0
 IsMapFrom files top text =
-    (sources : List NamedSource) × GathersTo files top (project sources) × (texts : List (List ℕ)) × AreSources files sources texts × IsMapOf texts sources text
+    (sources : List NamedSource) × IsProjectOf files top sources × (texts : List (List ℕ)) × AreSources files sources texts × IsMapOf texts sources text
 
 -- this text hints at what is most likely a slip in the project of a top file, by the bytes of its files
 abbrev pub IsHintsFrom : Files → (top text : List ℕ) → Type 0
 IsHintsFrom files top text =
-    (sources : List NamedSource) × GathersTo files top (project sources) × (texts : List (List ℕ)) × AreSources files sources texts × IsHintsOf texts sources text
+    (sources : List NamedSource) × IsProjectOf files top sources × (texts : List (List ℕ)) × AreSources files sources texts × IsHintsOf texts sources text
 
 -- this legend is that of the project of a top file, by the bytes of its files
 abbrev pub IsProjectLegend : Files → (top : List ℕ) → Legend → Type 0
 IsProjectLegend files top legend =
-    (sources : List NamedSource) × GathersTo files top (project sources) × (texts : List (List ℕ)) × AreSources files sources texts × IsLegendOf texts sources legend
+    (sources : List NamedSource) × IsProjectOf files top sources × (texts : List (List ℕ)) × AreSources files sources texts × IsLegendOf texts sources legend
 
 -- the blocks that a page has of files with these bytes, in their order
 abbrev pub file_blocks : List NamedSource → (texts : List (List ℕ)) → List Block
@@ -74,13 +75,13 @@ AreBlocksOf texts sources blocks = (map : List ℕ) × IsMapOf texts sources map
 -- those of the project of a top file
 abbrev pub AreProjectBlocks : Files → (top : List ℕ) → List Block → Type 0
 AreProjectBlocks files top blocks =
-    (sources : List NamedSource) × GathersTo files top (project sources) × (texts : List (List ℕ)) × AreSources files sources texts × AreBlocksOf texts sources blocks
+    (sources : List NamedSource) × IsProjectOf files top sources × (texts : List (List ℕ)) × AreSources files sources texts × AreBlocksOf texts sources blocks
 
 -- The project of a top file is refused: this file of it, with the bytes that it was read with, for this; while it is gathered, or else when it is
 -- built, and then what is too large has this size.
 pub data IsRefusedFrom (files : Files) (top : List ℕ) (file : ReadFile) (f : Fault) (size : Option Size) : Type 0 where
   while_gathered : GathersTo files top (refused file f) → size ≡ None → IsRefusedFrom files top file f size
-  when_built : (sources : List NamedSource) → GathersTo files top (project sources)
+  when_built : (sources : List NamedSource) → IsProjectOf files top sources
       → IsMeasured sources file.name f size → WasRead files file → IsRefusedFrom files top file f size
 
 -- Where a shelf tells its files, a source has one outcome.
@@ -92,9 +93,11 @@ pub record HasOneOutcome (files : List ℕ → Option (List ℕ)) : Type 0 where
   pub one_hints : (top a b : List ℕ) → IsHintsFrom (Some files) top a → IsHintsFrom (Some files) top b → a ≡ b
   pub one_legend : (top : List ℕ) (a b : Legend) → IsProjectLegend (Some files) top a → IsProjectLegend (Some files) top b → a ≡ b
   pub one_blocks : (top : List ℕ) (a b : List Block) → AreProjectBlocks (Some files) top a → AreProjectBlocks (Some files) top b → a ≡ b
-  pub not_missing : (before now : ℕ) (short : Bool) (top name : List ℕ) (mention : Option Mention) (sources : List NamedSource) (clock : Clock) (objects : List ObjectPart)
+  pub not_missing : (before now : ℕ) (short : Bool) (top name : List ℕ) (mention : Option Mention) (sources : List NamedSource) (clock : Clock)
+      (objects : List ObjectPart)
       → IsBuiltFrom (Some files) short top sources clock objects → ¬ Gathers (shelved (Some files) before now) top (missing name mention)
-  pub not_refused : (short : Bool) (top : List ℕ) (file : ReadFile) (f : Fault) (size : Option Size) (sources : List NamedSource) (clock : Clock) (objects : List ObjectPart)
+  pub not_refused : (short : Bool) (top : List ℕ) (file : ReadFile) (f : Fault) (size : Option Size) (sources : List NamedSource) (clock : Clock)
+      (objects : List ObjectPart)
       → IsBuiltFrom (Some files) short top sources clock objects → ¬ IsRefusedFrom (Some files) top file f size
   pub missing_or_refused : (before now : ℕ) (top name : List ℕ) (file : ReadFile) (mention : Option Mention) (f : Fault) (size : Option Size)
       → Gathers (shelved (Some files) before now) top (missing name mention) → ¬ IsRefusedFrom (Some files) top file f size

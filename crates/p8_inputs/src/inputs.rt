@@ -69,7 +69,8 @@ fn file_in<S: Shelf>(alloc: Global, program: Program<'_>, shelf: &mut S) -> Resu
     ensures boot { IfOk result (IsBootOf (S.files shelf.old) program.entry.format program.entry.file.now) }
     ensures proper { IfOk result (λ boot. IsProperOrigin boot.first) }
     ensures stopped { IfErr result (StopsAtProgram (S.files shelf.old) (S.faults shelf.old) (S.faults shelf.new) program.entry.format program.entry.file.now) }
-    ensures all_read { IfOk result (λ _. IsAllRead (S.files shelf.old) (program_ask program.entry.format program.entry.file.now) (S.log shelf.old) (S.log shelf.new)) }
+    ensures all_read { IfOk result (λ _. IsAllRead (S.files shelf.old) (program_ask program.entry.format program.entry.file.now) (S.log shelf.old)
+        (S.log shelf.new)) }
     ensures so_far { IsReadSoFar (S.files shelf.old) (program_ask program.entry.format program.entry.file.now) (S.log shelf.old) (S.log shelf.new) }
     ensures later { S.faults shelf.old ≤ S.faults shelf.new }
     ensures kept { S.files shelf.new ≡ S.files shelf.old }
@@ -107,7 +108,8 @@ pub(crate) fn boot_in<S: Shelf>(
     ensures boot { IfOk result (IsBootOf (S.files shelf.old) program.entry.format program.entry.file.now) }
     ensures proper { IfOk result (λ boot. IsProperOrigin boot.first) }
     ensures stopped { IfErr result (StopsAtProgram (S.files shelf.old) (S.faults shelf.old) (S.faults shelf.new) program.entry.format program.entry.file.now) }
-    ensures all_read { IfOk result (λ _. IsAllRead (S.files shelf.old) (program_ask program.entry.format program.entry.file.now) (S.log shelf.old) (S.log shelf.new)) }
+    ensures all_read { IfOk result (λ _. IsAllRead (S.files shelf.old) (program_ask program.entry.format program.entry.file.now) (S.log shelf.old)
+        (S.log shelf.new)) }
     ensures so_far { IsReadSoFar (S.files shelf.old) (program_ask program.entry.format program.entry.file.now) (S.log shelf.old) (S.log shelf.new) }
     ensures later { S.faults shelf.old ≤ S.faults shelf.new }
     ensures kept { S.files shelf.new ≡ S.files shelf.old }
@@ -179,8 +181,10 @@ pub fn read_inputs<S: Shelf>(
     ensures proper { IfOk result (λ inputs. IsProperOrigin inputs.boot.first) }
     ensures stopped { IfErr result
         (Stops (S.files shelf.old) (S.faults shelf.old) (S.faults shelf.new) (run_asks program.entry.format program.entry.file.now (name_of script.entry))) }
-    ensures all_read { IfOk result (λ _. AreAllRead (S.files shelf.old) (run_asks program.entry.format program.entry.file.now (name_of script.entry)) (S.log shelf.old) (S.log shelf.new)) }
-    ensures so_far { AreReadSoFar (S.files shelf.old) (run_asks program.entry.format program.entry.file.now (name_of script.entry)) (S.log shelf.old) (S.log shelf.new) }
+    ensures all_read { IfOk result (λ _. AreAllRead (S.files shelf.old) (run_asks program.entry.format program.entry.file.now (name_of script.entry))
+        (S.log shelf.old) (S.log shelf.new)) }
+    ensures so_far { AreReadSoFar (S.files shelf.old) (run_asks program.entry.format program.entry.file.now (name_of script.entry)) (S.log shelf.old)
+        (S.log shelf.new) }
     ensures later { S.faults shelf.old ≤ S.faults shelf.new }
     ensures kept { S.files shelf.new ≡ S.files shelf.old }
 {
@@ -207,8 +211,10 @@ pub fn read_recorded<S: Shelf>(
     ensures stopped { IfErr result
         (Stops (S.files shelf.old) (S.faults shelf.old) (S.faults shelf.new)
         (check_asks program.entry.format program.entry.file.now (name_of script.entry) history.now)) }
-    ensures all_read { IfOk result (λ _. AreAllRead (S.files shelf.old) (check_asks program.entry.format program.entry.file.now (name_of script.entry) history.now) (S.log shelf.old) (S.log shelf.new)) }
-    ensures so_far { AreReadSoFar (S.files shelf.old) (check_asks program.entry.format program.entry.file.now (name_of script.entry) history.now) (S.log shelf.old) (S.log shelf.new) }
+    ensures all_read { IfOk result (λ _. AreAllRead (S.files shelf.old)
+        (check_asks program.entry.format program.entry.file.now (name_of script.entry) history.now) (S.log shelf.old) (S.log shelf.new)) }
+    ensures so_far { AreReadSoFar (S.files shelf.old) (check_asks program.entry.format program.entry.file.now (name_of script.entry) history.now)
+        (S.log shelf.old) (S.log shelf.new) }
     ensures later { S.faults shelf.old ≤ S.faults shelf.new }
     ensures kept { S.files shelf.new ≡ S.files shelf.old }
 {

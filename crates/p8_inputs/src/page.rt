@@ -45,7 +45,8 @@ fn source_shown<S: Shelf>(alloc: Global, file: &str, shelf: &mut S) -> Result<Sh
     ensures boot { IfOk result (λ read. IsBootOf (S.files shelf.old) (Source false) file.now read.boot) }
     ensures proper { IfOk result (λ read. IsProperOrigin read.boot.first) }
     ensures legend { IfOk result (λ read. IsLegendFrom (S.files shelf.old) (Source false) file.now read.legend) }
-    ensures blocks { IfOk result (λ read. (blocks : List Block) × AreBlocksFrom (S.files shelf.old) (Source false) file.now blocks × (read.project.items ≡ blocks_text blocks)) }
+    ensures blocks { IfOk result (λ read. (blocks : List Block) × AreBlocksFrom (S.files shelf.old) (Source false) file.now blocks ×
+        (read.project.items ≡ blocks_text blocks)) }
     ensures stopped { IfErr result (StopsAtProgram (S.files shelf.old) (S.faults shelf.old) (S.faults shelf.new) (Source false) file.now) }
     ensures all_read { IfOk result (λ _. IsProgramRead (S.files shelf.old) (Source false) file.now (S.log shelf.old) (S.log shelf.new)) }
     ensures so_far { IsProgramBegun (S.files shelf.old) (Source false) file.now (S.log shelf.old) (S.log shelf.new) }
@@ -90,7 +91,8 @@ fn program_shown<S: Shelf>(
     ensures boot { IfOk result (λ read. IsBootOf (S.files shelf.old) program.entry.format program.entry.file.now read.boot) }
     ensures proper { IfOk result (λ read. IsProperOrigin read.boot.first) }
     ensures legend { IfOk result (λ read. IsLegendFrom (S.files shelf.old) program.entry.format program.entry.file.now read.legend) }
-    ensures blocks { IfOk result (λ read. (blocks : List Block) × AreBlocksFrom (S.files shelf.old) program.entry.format program.entry.file.now blocks × (read.project.items ≡ blocks_text blocks)) }
+    ensures blocks { IfOk result (λ read. (blocks : List Block) ×
+        AreBlocksFrom (S.files shelf.old) program.entry.format program.entry.file.now blocks × (read.project.items ≡ blocks_text blocks)) }
     ensures stopped { IfErr result (StopsAtProgram (S.files shelf.old) (S.faults shelf.old) (S.faults shelf.new) program.entry.format program.entry.file.now) }
     ensures all_read { IfOk result (λ _. IsProgramRead (S.files shelf.old) program.entry.format program.entry.file.now (S.log shelf.old) (S.log shelf.new)) }
     ensures so_far { IsProgramBegun (S.files shelf.old) program.entry.format program.entry.file.now (S.log shelf.old) (S.log shelf.new) }
@@ -109,8 +111,9 @@ fn program_shown<S: Shelf>(
     }
 }
 
-/// Reads what a page begins with: the file to run with its legend and the blocks of its project, and then the pin script, if one is named. Of a source legend and
-/// blocks are those of its project, which is read once; of hub memory, of an image and of short code the legend tells nothing, and there are no blocks.
+/// Reads what a page begins with: the file to run with its legend and the blocks of its project, and then the pin script, if one is named. Of a
+/// source legend and blocks are those of its project, which is read once; of hub memory, of an image and of short code the legend tells nothing, and
+/// there are no blocks.
 ///
 /// # Errors
 ///
@@ -124,12 +127,15 @@ pub fn read_paged<S: Shelf>(
     ensures begins { IfOk result (λ read. Begins (S.files shelf.old) program.entry.format program.entry.file.now (name_of script.entry) read.inputs) }
     ensures proper { IfOk result (λ read. IsProperOrigin read.inputs.boot.first) }
     ensures legend { IfOk result (λ read. IsLegendFrom (S.files shelf.old) program.entry.format program.entry.file.now read.legend) }
-    ensures blocks { IfOk result (λ read. (blocks : List Block) × AreBlocksFrom (S.files shelf.old) program.entry.format program.entry.file.now blocks × (read.project.items ≡ blocks_text blocks)) }
+    ensures blocks { IfOk result (λ read. (blocks : List Block) ×
+        AreBlocksFrom (S.files shelf.old) program.entry.format program.entry.file.now blocks × (read.project.items ≡ blocks_text blocks)) }
     ensures stopped { IfErr result
         (Stops (S.files shelf.old) (S.faults shelf.old) (S.faults shelf.new)
         (page_asks program.entry.format program.entry.file.now (name_of script.entry))) }
-    ensures all_read { IfOk result (λ _. AreAllRead (S.files shelf.old) (page_asks program.entry.format program.entry.file.now (name_of script.entry)) (S.log shelf.old) (S.log shelf.new)) }
-    ensures so_far { AreReadSoFar (S.files shelf.old) (page_asks program.entry.format program.entry.file.now (name_of script.entry)) (S.log shelf.old) (S.log shelf.new) }
+    ensures all_read { IfOk result (λ _. AreAllRead (S.files shelf.old)
+        (page_asks program.entry.format program.entry.file.now (name_of script.entry)) (S.log shelf.old) (S.log shelf.new)) }
+    ensures so_far { AreReadSoFar (S.files shelf.old) (page_asks program.entry.format program.entry.file.now (name_of script.entry))
+        (S.log shelf.old) (S.log shelf.new) }
     ensures later { S.faults shelf.old ≤ S.faults shelf.new }
     ensures kept { S.files shelf.new ≡ S.files shelf.old }
 {

@@ -256,7 +256,8 @@ fn paged_project(alloc: Global, gathered: &Gathered) -> Result<PagedImage, Stop>
     requires beside { length gathered.now.sources ≡ length (named_sources_of gathered.now.project) }
     ensures image { IfOk result (λ read. IsImageBuiltBy false (named_sources_of gathered.now.project) read.image) }
     ensures legend { IfOk result (λ read. IsLegendOf gathered.now.sources (named_sources_of gathered.now.project) read.legend) }
-    ensures blocks { IfOk result (λ read. (blocks : List Block) × AreBlocksOf gathered.now.sources (named_sources_of gathered.now.project) blocks × (read.project.items ≡ blocks_text blocks)) }
+    ensures blocks { IfOk result (λ read. (blocks : List Block) × AreBlocksOf gathered.now.sources (named_sources_of gathered.now.project) blocks ×
+        (read.project.items ≡ blocks_text blocks)) }
     ensures stopped { IfErr result (StopsAtBuilding (named_sources_of gathered.now.project) gathered.now.sources) }
 {
     let accepted = match accept(alloc, &gathered.project) {
@@ -327,7 +328,8 @@ pub(crate) fn paged_in<S: Shelf>(
     ensures image { IfOk result (λ read. HasProperTrees (S.files shelf.old) (Source false) file.now read.image.file) }
     ensures memory { IfOk result (λ read. read.image ≡ image_of_file read.image.file) }
     ensures legend { IfOk result (λ read. IsProjectLegend (S.files shelf.old) file.now read.legend) }
-    ensures blocks { IfOk result (λ read. (blocks : List Block) × AreProjectBlocks (S.files shelf.old) file.now blocks × (read.project.items ≡ blocks_text blocks)) }
+    ensures blocks { IfOk result (λ read. (blocks : List Block) × AreProjectBlocks (S.files shelf.old) file.now blocks ×
+        (read.project.items ≡ blocks_text blocks)) }
     ensures stopped { IfErr result (StopsAtProgram (S.files shelf.old) (S.faults shelf.old) (S.faults shelf.new) (Source false) file.now) }
     ensures all_read { IfOk result (λ _. IsProjectRead (S.files shelf.old) file.now (S.log shelf.old) (S.log shelf.new)) }
     ensures in_order { ReadsInOrder (S.files shelf.old) file.now (S.log shelf.old) (S.log shelf.new) }
@@ -452,7 +454,8 @@ pub fn map_of_source<S: Shelf>(alloc: Global, file: &str, shelf: &mut S) -> Resu
     map_in(alloc, file, shelf)
 }
 
-/// The hints at what is accepted in the project of sources whose top file has this name, and is most likely a slip: see [`project_hints`](p8_hint::project_hints).
+/// The hints at what is accepted in the project of sources whose top file has this name, and is most likely a slip: see
+/// [`project_hints`](p8_hint::project_hints).
 ///
 /// # Errors
 ///

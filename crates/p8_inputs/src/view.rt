@@ -144,7 +144,8 @@ fn told_with<S: Shelf>(
     ensures proper { IfOk result (λ read. IsProperOrigin read.boot.first) }
     ensures legend { IfOk result (λ read. IsLegendFrom (S.files shelf.old) program.entry.format program.entry.file.now read.legend) }
     ensures named { IfOk result (λ read. HasName read.legend (name_of name.entry)) }
-    ensures stopped { IfErr result (StopsAt (S.files shelf.old) (S.faults shelf.old) (S.faults shelf.new) (viewing_ask program.entry.format program.entry.file.now (name_of name.entry))) }
+    ensures stopped { IfErr result (StopsAt (S.files shelf.old) (S.faults shelf.old) (S.faults shelf.new)
+        (viewing_ask program.entry.format program.entry.file.now (name_of name.entry))) }
     ensures all_read { IfOk result (λ _. IsProgramRead (S.files shelf.old) program.entry.format program.entry.file.now (S.log shelf.old) (S.log shelf.new)) }
     ensures so_far { IsProgramBegun (S.files shelf.old) program.entry.format program.entry.file.now (S.log shelf.old) (S.log shelf.new) }
     ensures later { S.faults shelf.old ≤ S.faults shelf.new }
@@ -177,8 +178,10 @@ pub fn read_viewed<S: Shelf>(
     ensures stopped { IfErr result
         (Stops (S.files shelf.old) (S.faults shelf.old) (S.faults shelf.new)
         (view_asks program.entry.format program.entry.file.now (name_of name.entry) (name_of script.entry))) }
-    ensures all_read { IfOk result (λ _. AreAllRead (S.files shelf.old) (view_asks program.entry.format program.entry.file.now (name_of name.entry) (name_of script.entry)) (S.log shelf.old) (S.log shelf.new)) }
-    ensures so_far { AreReadSoFar (S.files shelf.old) (view_asks program.entry.format program.entry.file.now (name_of name.entry) (name_of script.entry)) (S.log shelf.old) (S.log shelf.new) }
+    ensures all_read { IfOk result (λ _. AreAllRead (S.files shelf.old)
+        (view_asks program.entry.format program.entry.file.now (name_of name.entry) (name_of script.entry)) (S.log shelf.old) (S.log shelf.new)) }
+    ensures so_far { AreReadSoFar (S.files shelf.old)
+        (view_asks program.entry.format program.entry.file.now (name_of name.entry) (name_of script.entry)) (S.log shelf.old) (S.log shelf.new) }
     ensures later { S.faults shelf.old ≤ S.faults shelf.new }
     ensures kept { S.files shelf.new ≡ S.files shelf.old }
 {

@@ -1,5 +1,5 @@
 -- Gathering from a shelf that tells its files comes to one outcome.
-use Rattle.std.proofs.Common.{◌≡◌, ℕ, ◌<◌, ◌≤◌, inl, inr, List, [], ◌∷◌, ◌++◌, length, Option, Some, None, refl, ap, sym, ◌∙◌, subst, arith}
+use Rattle.std.proofs.Common.{◌≡◌, ◌↔◌, ℕ, ◌<◌, ◌≤◌, inl, inr, List, [], ◌∷◌, ◌++◌, length, Option, Some, None, refl, ap, sym, ◌∙◌, subst, arith}
 use Rattle.p8_tree.specs.declared.places.Place.{Place}
 use Rattle.p8_tree.specs.Sources.{Child, Source}
 use Rattle.p8_tree.specs.Projects.{NamedSource}
@@ -12,14 +12,15 @@ use Rattle.p8_lexer.specs.Lexing.{longest_file, AreTokens, IsFault}
 use Rattle.p8_lines.specs.Tokens.{LineToken, all_tokens}
 use Rattle.p8_blocks.specs.Reading as reading
 use Rattle.p8_blocks.specs.Reading.{Answer, Parses}
+use Rattle.p8_blocks.specs.Files.{IsFileWithinLimits}
 use Rattle.p8_io.specs.Shelves.{AreStartOf}
 use Rattle.p8_objects.specs.Lists.{IsAt, HasOne, IsFirst}
 use Rattle.p8_objects.specs.Sources.{mentions, most_objects, ReadsAs, IsSource, IsRefused, no_tokens, no_file, too_many}
 use Rattle.p8_objects.specs.declared.fault.Mention.{Mention}
 use Rattle.p8_objects.specs.declared.fault.ReadFile.{ReadFile}
-use Rattle.p8_objects.specs.Projects.{IsIn, Mentions, Leads, there, over, ClosesRing, IsOpen, HasOpen, IsNext, Call, Calls, read, refuse, nothing}
+use Rattle.p8_objects.specs.Projects.{IsIn, Leads, there, over, ClosesRing, IsOpen, HasOpen, IsNext, Call, Calls, read, refuse, nothing}
 use Rattle.p8_objects.specs.Projects as projects
-use Rattle.p8_objects.specs.Outcomes.{Shelved, shelved, HasBytes, WasRead, read_as, IsAbsent, mention_in, IsMentionedAt, Outcome, ComesTo, project, refused, missing, failed, named}
+use Rattle.p8_objects.specs.Outcomes.{Shelved, shelved, HasBytes, WasRead, read_as, IsAbsent, mention_in, IsMentionedAt, Outcome, ComesTo, project, refused, missing, named}
 use Rattle.p8_objects.specs.Outcomes as outcomes
 use Rattle.p8_objects.specs.Whole.{IsOfFiles}
 use Rattle.p8_objects.proofs.Elements.{one_at, is_within, one_first, one_last, last_is_one}
@@ -31,6 +32,7 @@ pub record OneAnswer : Type 0 where
   pub one_list : (bytes : List ℕ) (some others : List Token) → AreTokens bytes some → AreTokens bytes others → some ≡ others
   pub one_fault : (bytes : List ℕ) (one another : Fault) → IsFault bytes one → IsFault bytes another → one ≡ another
   pub one_reading : (ts : List LineToken) (a b : Answer) → Parses ts a → Parses ts b → a ≡ b
+  pub are_read : (ts : List LineToken) (s : Source) → Parses ts (reading.source s) ↔ IsFileWithinLimits s ts
 
 -- what the files so far call for
 
@@ -101,15 +103,20 @@ one_answer : (A : OneAnswer) (bytes : List ℕ) (some others : List Token) {a b 
 one_answer A bytes some others {a = a} {b = b} c d p q =
     A.one_reading (all_tokens bytes others) a b (subst (λ ts. Parses ts a) (same_tokens A bytes some others c d) p) q
 
+-- what reading answers of bytes that are read so
+reads_so : (A : OneAnswer) {bytes : List ℕ} {s : Source} (r : ReadsAs bytes s) → Parses (all_tokens bytes r.tokens) (reading.source s)
+reads_so A {bytes = bytes} {s = s} r = (A.are_read (all_tokens bytes r.tokens) s).1 r.is
+
 one_source : (A : OneAnswer) {bytes : List ℕ} {s t : Source} → ReadsAs bytes s → ReadsAs bytes t → s ≡ t
-one_source A {bytes = bytes} r q = same_source (one_answer A bytes r.tokens q.tokens r.cut q.cut r.read q.read)
+one_source A {bytes = bytes} r q = same_source (one_answer A bytes r.tokens q.tokens r.cut q.cut (reads_so A r) (reads_so A q))
 
 too_many_for : {xs : List Child} {x : Child} → IsAt xs most_objects x → length xs ≤ most_objects → ⊥
 too_many_for at l = let w = is_within at in omega arith
 
 source_or_refused : (A : OneAnswer) {bytes : List ℕ} {s : Source} {f : Fault} → IsSource bytes s → IsRefused bytes f → ⊥
 source_or_refused A {bytes = bytes} i (no_tokens f) = A.never_both bytes i.reads.tokens _ i.reads.cut i.reads.short f
-source_or_refused A {bytes = bytes} i (no_file tokens l cut q) = no_fault_source (one_answer A bytes i.reads.tokens tokens i.reads.cut cut i.reads.read q)
+source_or_refused A {bytes = bytes} i (no_file tokens l cut q) =
+    no_fault_source (one_answer A bytes i.reads.tokens tokens i.reads.cut cut (reads_so A i.reads) q)
 source_or_refused A i (too_many t x r at e) = too_many_for (subst (λ u. IsAt (mentions u) most_objects x) (one_source A r i.reads) at) i.few
 
 one_refusal : (A : OneAnswer) {bytes : List ℕ} {f g : Fault} → IsRefused bytes f → IsRefused bytes g → f ≡ g
@@ -119,9 +126,11 @@ one_refusal A {bytes = bytes} (no_tokens f) (too_many t x r at e) = absurd (A.ne
 one_refusal A {bytes = bytes} (no_file tokens l cut r) (no_tokens g) = absurd (A.never_both bytes tokens _ cut l g)
 one_refusal A {bytes = bytes} {f = f} {g = g} (no_file tokens l cut r) (no_file tokens' l' cut' r') =
     let same = same_answer (one_answer A bytes tokens tokens' cut cut' r r') in same_fault f g same.0 same.1
-one_refusal A {bytes = bytes} (no_file tokens l cut r) (too_many t x h at e) = absurd (no_fault_source (one_answer A bytes h.tokens tokens h.cut cut h.read r))
+one_refusal A {bytes = bytes} (no_file tokens l cut r) (too_many t x h at e) =
+    absurd (no_fault_source (one_answer A bytes h.tokens tokens h.cut cut (reads_so A h) r))
 one_refusal A {bytes = bytes} (too_many t x r at e) (no_tokens g) = absurd (A.never_both bytes r.tokens _ r.cut r.short g)
-one_refusal A {bytes = bytes} (too_many t x h at e) (no_file tokens l cut r) = absurd (no_fault_source (one_answer A bytes h.tokens tokens h.cut cut h.read r))
+one_refusal A {bytes = bytes} (too_many t x h at e) (no_file tokens l cut r) =
+    absurd (no_fault_source (one_answer A bytes h.tokens tokens h.cut cut (reads_so A h) r))
 one_refusal A (too_many t x r at e) (too_many t' x' r' at' e') =
     e ∙ (ap (λ z. fault TooManyObjects z.place) (one_at (subst (λ u. IsAt (mentions u) most_objects x) (one_source A r r') at) at' refl) ∙ sym e')
 

@@ -18,8 +18,8 @@ use Rattle.p8_objects.specs.Lists.{IsAt}
 use Rattle.p8_objects.specs.Sources.{mentions}
 use Rattle.p8_objects.specs.Projects.{IsIn, ClosesRing, Calls, read, refuse, nothing, first_file, new_file, file_too_many, ring, whole}
 use Rattle.p8_objects.specs.Outcomes as outcomes
-use Rattle.p8_objects.specs.Outcomes.{Shelved, shelved, HasBytes, WasRead, read_as, IsAbsent, mention_in, IsMentionedAt, Outcome, ComesTo, Answers, named}
-use Rattle.p8_objects.specs.Standing.{is_done, IsFinished, IsFirstLeft, AreFinished, Stands, DoneFrom, AllLeadTo}
+use Rattle.p8_objects.specs.Outcomes.{shelved, HasBytes, WasRead, read_as, IsAbsent, mention_in, IsMentionedAt, ComesTo, Answers, named}
+use Rattle.p8_objects.specs.Standing.{is_done, IsFinished, IsFirstLeft, AreFinished, Stands, DoneFrom}
 use Rattle.p8_objects.specs.Standing as standing
 use Rattle.p8_objects.specs.Mentioned.{sources_of, IsMentionFault}
 use Rattle.p8_objects.specs.Reading.{IsFileOf, IsFileFault}

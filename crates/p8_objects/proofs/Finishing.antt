@@ -4,7 +4,7 @@ use Rattle.std.proofs.lemmas.Bool.Decides.{nat_tests}
 use Rattle.std.proofs.lemmas.List.Folds.{list_any-append}
 use Rattle.p8_tree.specs.Sources.{Child}
 use Rattle.p8_tree.specs.Projects.{NamedSource}
-use Rattle.p8_objects.specs.Lists.{IsAt, HasOne, IsFirst, IsLast}
+use Rattle.p8_objects.specs.Lists.{IsAt, HasOne, IsFirst}
 use Rattle.p8_objects.specs.Lists as lists
 use Rattle.p8_objects.specs.Sources.{mentions}
 use Rattle.p8_objects.specs.Projects.{IsIn, Mentions, Leads, there, over, ClosesRing, IsOpen, HasOpen, IsNext}

@@ -6,4 +6,5 @@ pub mod Logs
 mod Ordering
 pub mod Wholes
 pub mod Agreeing
+pub mod Growing
 pub mod Sourcing

@@ -4,7 +4,7 @@ use Rattle.p8_tree.specs.Sources.{Child, Source}
 use Rattle.p8_tree.specs.Projects.{NamedSource, most_files}
 use Rattle.p8_objects.specs.Lists.{IsAt, HasOne}
 use Rattle.p8_objects.specs.Sources.{IsSource}
-use Rattle.p8_objects.specs.Projects.{IsIn, ClosesRing, IsOpen, HasOpen, IsNext, Calls, read, nothing}
+use Rattle.p8_objects.specs.Projects.{IsIn, HasOpen, IsNext, Calls, read, nothing}
 use Rattle.p8_objects.specs.Projects as projects
 use Rattle.p8_objects.specs.Outcomes.{Shelved, HasBytes, Outcome, ComesTo, project, named}
 use Rattle.p8_objects.specs.Outcomes as outcomes
@@ -81,7 +81,7 @@ reading : {top name : List ℕ} {files : List NamedSource} → Calls top files (
 reading (projects.first_file e) = the_first e refl
 reading (projects.new_file f x n new room) = a_new_one (next_not_empty n) new room
 
-nothing_open : {top : List ℕ} {files : List NamedSource} → Calls top files nothing → (0 < length files) × ¬ HasOne (HasOpen files) files
+pub nothing_open : {top : List ℕ} {files : List NamedSource} → Calls top files nothing → (0 < length files) × ¬ HasOne (HasOpen files) files
 nothing_open (projects.whole l n) = (l, n)
 
 -- one more file, of a name that isn't among them

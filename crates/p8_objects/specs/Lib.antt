@@ -3,6 +3,7 @@ pub mod Lists
 pub mod Sources
 pub mod Projects
 pub mod Outcomes
+pub mod Growing
 pub mod Orders
 pub mod Whole
 -- internal: what the code keeps while it gathers.

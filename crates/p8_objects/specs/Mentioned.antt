@@ -40,6 +40,7 @@ IsSourceFault file f _ = ⊥
 -- why a mention in the file is refused: its file is among these, or there are too many of them
 abbrev pub IsMentionFault : List NamedSource → ReadFile → Child → GatherFault → Type 0
 IsMentionFault files file x (gather_case.Source other f) =
-    (other ≡ file) × (((f ≡ fault Cycle x.file_place) × IsIn files x.file) ⊎ ((f ≡ fault TooManyObjects x.place) × (¬ IsIn files x.file) × (most_files ≤ length files)))
+    (other ≡ file) × (((f ≡ fault Cycle x.file_place) × IsIn files x.file) ⊎
+    ((f ≡ fault TooManyObjects x.place) × (¬ IsIn files x.file) × (most_files ≤ length files)))
 IsMentionFault files file x gather_case.NoMemory = Unit {0}
 IsMentionFault files file x _ = ⊥

@@ -12,7 +12,8 @@ use Rattle.p8_objects.specs.Outcomes.{HasBytes, named}
 pub data ReadsNext (shelf : Files) (top : List ℕ) : List NamedSource → (names : List (List ℕ)) → Type 0 where
   no_more : {files : List NamedSource} → ReadsNext shelf top files []
   last : {files : List NamedSource} (name : List ℕ) → Calls top files (read name) → ReadsNext shelf top files (name ∷ [])
-  one_more : {files : List NamedSource} {names : List (List ℕ)} (name bytes : List ℕ) (s : Source) → Calls top files (read name) → HasBytes shelf name bytes → IsSource bytes s
+  one_more : {files : List NamedSource} {names : List (List ℕ)} (name bytes : List ℕ) (s : Source) → Calls top files (read name) →
+      HasBytes shelf name bytes → IsSource bytes s
       → ReadsNext shelf top (files ++ named name s ∷ []) names → ReadsNext shelf top files (name ∷ names)
 
 -- what was read between two logs is a beginning of what gathering the project of a top file reads

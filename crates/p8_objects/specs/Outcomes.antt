@@ -48,7 +48,8 @@ mention_in file x = record { file = file; place = x.file_place }
 abbrev pub IsMentionedAt : Files → List NamedSource → (name : List ℕ) → Option Mention → Type 0
 IsMentionedAt shelf files name None = files ≡ []
 IsMentionedAt shelf files name (Some mention) =
-    (f : NamedSource) × (x : Child) × (bytes : List ℕ) × IsNext files f x × (x.file ≡ name) × HasBytes shelf f.name bytes × (mention ≡ mention_in (read_as f.name bytes) x)
+    (f : NamedSource) × (x : Child) × (bytes : List ℕ) × IsNext files f x × (x.file ≡ name) × HasBytes shelf f.name bytes ×
+    (mention ≡ mention_in (read_as f.name bytes) x)
 
 pub data Outcome : Type 0 where
   project : List NamedSource → Outcome
@@ -62,13 +63,17 @@ named name s = record { name = name; tree = s }
 -- With these files so far, gathering comes to this.
 pub data ComesTo (shelf : Shelved) (top : List ℕ) : List NamedSource → Outcome → Type 0 where
   -- the file that is read next is one more
-  one_more : {files : List NamedSource} {o : Outcome} (name bytes : List ℕ) (s : Source) → Calls top files (read name) → HasBytes shelf.files name bytes → IsSource bytes s → ComesTo shelf top (files ++ named name s ∷ []) o → ComesTo shelf top files o
+  one_more : {files : List NamedSource} {o : Outcome} (name bytes : List ℕ) (s : Source) → Calls top files (read name) →
+      HasBytes shelf.files name bytes → IsSource bytes s → ComesTo shelf top (files ++ named name s ∷ []) o → ComesTo shelf top files o
   -- or it is refused by itself, isn't there, which is told with its mention, or can't be read
-  file_refused : {files : List NamedSource} (file : ReadFile) (f : Fault) → Calls top files (read file.name) → WasRead shelf.files file → IsRefused file.bytes f → ComesTo shelf top files (refused file f)
-  absent : {files : List NamedSource} (name : List ℕ) (mention : Option Mention) → Calls top files (read name) → IsMentionedAt shelf.files files name mention → IsAbsent shelf name → ComesTo shelf top files (missing name mention)
+  file_refused : {files : List NamedSource} (file : ReadFile) (f : Fault) → Calls top files (read file.name) → WasRead shelf.files file →
+      IsRefused file.bytes f → ComesTo shelf top files (refused file f)
+  absent : {files : List NamedSource} (name : List ℕ) (mention : Option Mention) → Calls top files (read name) →
+      IsMentionedAt shelf.files files name mention → IsAbsent shelf name → ComesTo shelf top files (missing name mention)
   not_read : {files : List NamedSource} (name : List ℕ) → Calls top files (read name) → Rose shelf.before shelf.now → ComesTo shelf top files (failed name)
   -- a mention is refused, or there is nothing more to read
-  mention_refused : {files : List NamedSource} (file : ReadFile) (f : Fault) → Calls top files (refuse file.name f) → WasRead shelf.files file → ComesTo shelf top files (refused file f)
+  mention_refused : {files : List NamedSource} (file : ReadFile) (f : Fault) → Calls top files (refuse file.name f) → WasRead shelf.files file →
+      ComesTo shelf top files (refused file f)
   whole : {files : List NamedSource} → Calls top files nothing → ComesTo shelf top files (project files)
 
 -- what gathering the project of a top file comes to

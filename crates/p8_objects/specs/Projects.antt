@@ -52,6 +52,7 @@ pub data Call : Type 0 where
 pub data Calls (top : List ℕ) (files : List NamedSource) : Call → Type 0 where
   first_file : files ≡ [] → Calls top files (read top)
   new_file : (f : NamedSource) (x : Child) → IsNext files f x → ¬ IsIn files x.file → length files < most_files → Calls top files (read x.file)
-  file_too_many : (f : NamedSource) (x : Child) → IsNext files f x → ¬ IsIn files x.file → most_files ≤ length files → Calls top files (refuse f.name (fault TooManyObjects x.place))
+  file_too_many : (f : NamedSource) (x : Child) → IsNext files f x → ¬ IsIn files x.file → most_files ≤ length files →
+      Calls top files (refuse f.name (fault TooManyObjects x.place))
   ring : (f : NamedSource) (x : Child) → IsNext files f x → ClosesRing files f x → Calls top files (refuse f.name (fault Cycle x.file_place))
   whole : 0 < length files → ¬ HasOne (HasOpen files) files → Calls top files nothing

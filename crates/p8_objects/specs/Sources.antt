@@ -9,7 +9,8 @@ use Rattle.p8_tree.specs.Faults.{fault}
 use Rattle.p8_lexer.specs.Lexing.{longest_file, AreTokens, IsFault}
 use Rattle.p8_lines.specs.Tokens.{all_tokens}
 use Rattle.p8_blocks.specs.Reading as reading
-use Rattle.p8_blocks.specs.Reading.{Parses, source}
+use Rattle.p8_blocks.specs.Reading.{Parses}
+use Rattle.p8_blocks.specs.Files.{IsFileWithinLimits}
 use Rattle.p8_objects.specs.Lists.{IsAt}
 
 -- the items of OBJ: each mentions a file
@@ -25,12 +26,12 @@ mentions (b ∷ bs) = mentions_in b ++ mentions bs
 abbrev pub most_objects : ℕ
 most_objects = 255
 
--- these bytes are cut into tokens, and reading these answers so
+-- these bytes are cut into tokens, and these are a file with this tree
 pub record ReadsAs (bytes : List ℕ) (s : Source) : Type 0 where
   pub short : length bytes ≤ longest_file
   pub tokens : List Token
   pub cut : AreTokens bytes tokens
-  pub read : Parses (all_tokens bytes tokens) (source s)
+  pub is : IsFileWithinLimits s (all_tokens bytes tokens)
 
 -- these bytes are a source with this tree
 pub record IsSource (bytes : List ℕ) (s : Source) : Type 0 where
@@ -41,5 +42,6 @@ pub record IsSource (bytes : List ℕ) (s : Source) : Type 0 where
 -- OBJ too many.
 pub data IsRefused (bytes : List ℕ) (f : Fault) : Type 0 where
   no_tokens : IsFault bytes f → IsRefused bytes f
-  no_file : (tokens : List Token) → length bytes ≤ longest_file → AreTokens bytes tokens → Parses (all_tokens bytes tokens) (reading.fault f.number f.place) → IsRefused bytes f
+  no_file : (tokens : List Token) → length bytes ≤ longest_file → AreTokens bytes tokens →
+      Parses (all_tokens bytes tokens) (reading.fault f.number f.place) → IsRefused bytes f
   too_many : (s : Source) (x : Child) → ReadsAs bytes s → IsAt (mentions s) most_objects x → f ≡ fault TooManyObjects x.place → IsRefused bytes f

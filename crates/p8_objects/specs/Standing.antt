@@ -36,7 +36,8 @@ pub record Stands (files : List NamedSource) (done : List ℕ) : Type 0 where
   pub finished : (i k : ℕ) (f : NamedSource) (x : Child) → IsAt files i f → is_done done i ≡ true → IsAt (mentions f.tree) k x → IsFinished files done x.file
   pub no_ring : (i k : ℕ) (f : NamedSource) (x : Child) → IsAt files i f → is_done done i ≡ true → IsAt (mentions f.tree) k x → ¬ Leads files x.file f.name
   -- those that are being gathered lead one to the next
-  pub chain : (i j : ℕ) (f g : NamedSource) → i ≤ j → IsAt files i f → IsAt files j g → is_done done i ≡ false → is_done done j ≡ false → Leads files f.name g.name
+  pub chain : (i j : ℕ) (f g : NamedSource) → i ≤ j → IsAt files i f → IsAt files j g → is_done done i ≡ false → is_done done j ≡ false →
+      Leads files f.name g.name
 
 -- all files from this number on are finished
 pub record DoneFrom (files : List NamedSource) (done : List ℕ) (at : ℕ) : Type 0 where

@@ -12,4 +12,4 @@ mod source;
 pub use fault::{GatherFault, Mention, ReadFile};
 pub use gathered::{Gathered, discard};
 pub use gathering::gather;
-pub use laws::one_outcome;
+pub use laws::{one_outcome, projects_are_gathered};

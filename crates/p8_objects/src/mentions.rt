@@ -41,7 +41,8 @@ fn first_left_of<'a>(
     items: &'a [ObjItem],
 ) -> Option<&'a ObjItem>
     requires { Stands (sources_of files.now) done.now }
-    ensures { MatchOption result (AreFinished (sources_of files.now) done.now (map child_of items.now)) (λ item. IsFirstLeft (sources_of files.now) done.now (map child_of items.now) (child_of item.now)) }
+    ensures { MatchOption result (AreFinished (sources_of files.now) done.now (map child_of items.now))
+        (λ item. IsFirstLeft (sources_of files.now) done.now (map child_of items.now) (child_of item.now)) }
 {
     for item in items {
         if !is_finished(files, done, &item.file) {
@@ -68,7 +69,8 @@ pub(crate) fn first_left<'a>(
     source: &'a SourceFile,
 ) -> Option<&'a ObjItem>
     requires { Stands (sources_of files.now) done.now }
-    ensures { MatchOption result (AreFinished (sources_of files.now) done.now (mentions (source_of source.now))) (λ item. IsFirstLeft (sources_of files.now) done.now (mentions (source_of source.now)) (child_of item.now)) }
+    ensures { MatchOption result (AreFinished (sources_of files.now) done.now (mentions (source_of source.now)))
+        (λ item. IsFirstLeft (sources_of files.now) done.now (mentions (source_of source.now)) (child_of item.now)) }
 {
     for block in source.blocks.as_slice() {
         if let Some(item) = first_left_of(files, done, objects_of(block)) {

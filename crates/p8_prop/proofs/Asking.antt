@@ -19,6 +19,7 @@ use Rattle.p8_build.specs.Builds.{AreCompiled, IsBuilt, objects_of}
 use Rattle.p8_io.specs.Shelves.{Files}
 use Rattle.p8_cog.specs.Lives.{asks}
 use Rattle.p8_meaning.specs.Programs.{Program, Addresses}
+use Rattle.p8_objects.proofs.Growing.{gathers}
 use Rattle.p8_objects.proofs.Wholes.{whole_project}
 use Rattle.p8_compiled.specs.Told.{IsWorldOf, SpinIsTold}
 use Rattle.p8_opt.specs.Programs.{program_of, addresses_of}
@@ -53,7 +54,7 @@ module _ (methods : HaveMethods) (lives : AreTold) (short_lives : ShortAreTold) 
   world-of_source : (files : Files) (file : List ℕ) (sources : List NamedSource) (clock : Clock) (objects : List ObjectPart) (is : IsBuiltFrom files false file sources clock objects) → AreProper sources → (w : World) → w.memory ≡ memory_of (image_of clock objects) → w.first ≡ start_of (header_of (image_of clock objects)) → IsWorldOf (program_of sources is.built.children is.built.compiled) (addresses_of sources is.built.compiled objects) w
   world-of_source files file sources clock objects is proper w memory first =
       let built = is.built in
-      let whole = whole_project (is.gathered 0 0) in
+      let whole = whole_project (gathers is.gathered 0 0) in
       let all = objects_of sources built.children built.compiled in
       let same : objects ≡ all = built.objects_are in
       let placed = methods sources built.children built.compiled clock proper (some sources file whole.first) (distinct sources whole.distinct) (mentioned sources whole.mentioned) (no_ring sources whole.no_ring) built.seen built.each
@@ -68,7 +69,7 @@ module _ (methods : HaveMethods) (lives : AreTold) (short_lives : ShortAreTold) 
   spin-told false files file sources clock objects is proper w memory first past ended =
       lives (program_of sources is.built.children is.built.compiled) (addresses_of sources is.built.compiled objects) w (world-of_source files file sources clock objects is proper w memory first) past ended
   spin-told true files file sources clock objects is proper w memory first past ended =
-      let whole = whole_project (is.gathered 0 0) in
+      let whole = whole_project (gathers is.gathered 0 0) in
       short_lives sources clock objects proper (some sources file whole.first) (distinct sources whole.distinct) (mentioned sources whole.mentioned) (no_ring sources whole.no_ring) is.built w memory first past ended
 
   pub runs-are_told : RunsAreTold
@@ -103,10 +104,10 @@ module _ (keep : KeepMeaning) (short_keep : ShortKeepMeaning) where
   image-keeps : (short : Bool) (files : Files) (file : List ℕ) (sources : List NamedSource) (clock : Clock) (objects : List ObjectPart) (is : IsBuiltFrom files short file sources clock objects) → AreProper sources
       → KeepsMeaning (memory_of (image_of clock objects)) (program_by sources clock objects short is.built) (addresses_by sources clock objects short is.built)
   image-keeps false files file sources clock objects is proper =
-      let whole = whole_project (is.gathered 0 0) in
+      let whole = whole_project (gathers is.gathered 0 0) in
       built-keeps keep sources clock objects proper (some sources file whole.first) (distinct sources whole.distinct) (mentioned sources whole.mentioned) (no_ring sources whole.no_ring) is.built
   image-keeps true files file sources clock objects is proper =
-      let whole = whole_project (is.gathered 0 0) in
+      let whole = whole_project (gathers is.gathered 0 0) in
       short_keep sources clock objects proper (some sources file whole.first) (distinct sources whole.distinct) (mentioned sources whole.mentioned) (no_ring sources whole.no_ring) is.built
 
   pub builds-keep : (files : Files) (short : Bool) (file bytes : List ℕ) → HasProperTrees files (Source short) file bytes → IsBuild files short file bytes

@@ -25,7 +25,9 @@ use Rattle.p8_inputs.specs.Pages.{AreBlocksFrom}
 use Rattle.p8_page.specs.Page.{Block}
 use Rattle.p8_inputs.specs.Programs.{format_for, format_named, world_of}
 use Rattle.p8_inputs.specs.Sources.{IsBuiltBy, IsBuiltFrom}
-use Rattle.p8_commands.specs.Commands.{Command, Dump, Running, BuildSource, ListSource, MapSource, HintSource, ExplainFile, ExplainNumber, RunMemory, RunProgram, Save, Check, Serial as ReadPin, TypeFile, Wave as ShowWave, Plot as DrawPins, ViewRun, PageRun, Convert, Make, Help}
+use Rattle.p8_commands.specs.Commands.{Command, Dump, Running, BuildSource, ListSource, MapSource, HintSource, ExplainFile, ExplainNumber, RunMemory}
+use Rattle.p8_commands.specs.Commands.{RunProgram, Save, Check, Serial as ReadPin, TypeFile, Wave as ShowWave, Plot as DrawPins, ViewRun, PageRun}
+use Rattle.p8_commands.specs.Commands.{Convert, Make, Help}
 use Rattle.p8_finish.specs.declared.finish.Finish.{Finish}
 use Rattle.p8_finish.specs.declared.finish.Finish.TheVariants.{Trace, Saved, Serial, Wave, Plot}
 use Rattle.p8_finish.specs.Finishes.{told_by, IsWhole}
@@ -106,7 +108,8 @@ IsHeadline files (Save raw run) text = IsRun files (format_for raw run.file) run
 IsHeadline files (Check raw file history script) text = Unit {0}
 IsHeadline files (ReadPin raw run pin bits) text = IsRun files (format_for raw run.file) run (Serial pin bits) text
 IsHeadline files (ShowWave alone raw all pins_only run) text = IsRun files (format_for raw run.file) run (Wave (selection_of all pins_only)) text
-IsHeadline files (DrawPins alone raw ascii run pins from to columns) text = IsRun files (format_for raw run.file) run (Plot (picture_of pins from to columns ascii)) text
+IsHeadline files (DrawPins alone raw ascii run pins from to columns) text = IsRun files (format_for raw run.file) run
+    (Plot (picture_of pins from to columns ascii)) text
 IsHeadline files (ViewRun raw pins_only quiet run cog from to dump) text =
     IsView files (format_for raw run.file) run (options_of pins_only quiet cog from to) dump text
 IsHeadline files (PageRun raw run from to) text = IsPage files (format_for raw run.file) run from to text

@@ -6,7 +6,7 @@ use Rattle.p8_tree.specs.Projects.{NamedSource}
 use Rattle.p8_tree.specs.Statements.{Statements}
 use Rattle.p8_kinds.specs.declared.children.Children.{Children}
 use Rattle.p8_kinds.specs.declared.kinds.Kinds.{Kinds}
-use Rattle.p8_kinds.specs.Meanings.{Setting}
+use Rattle.p8_fold.specs.Meanings.{Setting}
 use Rattle.p8_kinds.specs.Kinds.{own}
 use Rattle.p8_constants.specs.FileItems.{items}
 use Rattle.p8_names.specs.Settings.{IsSetting}
@@ -77,7 +77,8 @@ pub record AreCompilations (short : Bool) (files : List NamedSource) (children :
       → IsCompilation short file.tree seen x
 
 -- this is the image of its files, which are compiled so and have these objects
-pub record IsImageOf (short : Bool) (files : List NamedSource) (children : List Children) (xs : List CompiledFile) (objects : List ObjectPart) (image : List ℕ) : Type 0 where
+pub record IsImageOf (short : Bool) (files : List NamedSource) (children : List Children) (xs : List CompiledFile) (objects : List ObjectPart)
+    (image : List ℕ) : Type 0 where
   pub seen : AreChildren files children
   pub compiled : AreCompilations short files children xs
   pub laid_out : objects ≡ objects_of files children xs

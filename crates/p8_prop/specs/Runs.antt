@@ -9,7 +9,7 @@ use Rattle.p8_tree.specs.Projects.{NamedSource}
 use Rattle.p8_kinds.specs.declared.children.Children.{Children}
 use Rattle.p8_image.specs.declared.parts.ObjectPart.{ObjectPart}
 use Rattle.p8_io.specs.Shelves.{Files, IsRead}
-use Rattle.p8_objects.specs.Outcomes.{project}
+use Rattle.p8_objects.specs.Growing.{IsProjectOf}
 use Rattle.p8_build.specs.Files.{CompiledFile}
 use Rattle.p8_compiled.specs.Told.{SpinIsTold}
 use Rattle.p8_opt.specs.Programs.{program_of, addresses_of}
@@ -20,7 +20,6 @@ use Rattle.p8_inputs.specs.declared.program.Format.{Format}
 use Rattle.p8_inputs.specs.declared.program.Format.TheVariants.{Memory, Source}
 use Rattle.p8_inputs.specs.Inputs.{IsScriptFor}
 use Rattle.p8_inputs.specs.Programs.{fault_of as load_fault, format_named, world_of}
-use Rattle.p8_inputs.specs.Sources.{GathersTo}
 use Rattle.p8_prop.specs.Headline.{IsOneHistory}
 use Rattle.p8_prop.specs.Images.{IsImageOf}
 
@@ -32,11 +31,11 @@ value_in entry words name = first_of name (matches_of (app_for entry) words)
 abbrev pub SayRun : Entry → List Text → Running → Type 0
 SayRun entry words run = (fault_of (app_for entry) words ≡ []) × (traced_of (value_in entry words) ≡ Some run)
 
--- These bytes are compiled from a source: they are the image of its project, which is gathered from the top file. And in a history each life of Spin is
+-- These bytes are compiled from a source: they are the image of the project of this top file. And in a history each life of Spin is
 -- what its method's source says.
 pub record IsCompiledFrom (files : Files) (short : Bool) (top bytes : List ℕ) (w : World) (past : List Turn) : Type 0 where
   pub sources : List NamedSource
-  pub gathered : GathersTo files top (project sources)
+  pub gathered : IsProjectOf files top sources
   pub children : List Children
   pub compiled : List CompiledFile
   pub objects : List ObjectPart

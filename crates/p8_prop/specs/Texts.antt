@@ -29,9 +29,12 @@ use Rattle.p8_wave.specs.declared.variables.Selection.{Selection}
 use Rattle.p8_inputs.specs.declared.program.Format.{Format}
 use Rattle.p8_inputs.specs.declared.program.Format.TheVariants.{Memory, Source}
 use Rattle.p8_inputs.specs.Programs.{format_for, format_named, format_of, other_file, boot_by, world_of}
-use Rattle.p8_inputs.specs.Asks.{Ask, program, listing, mapping, hinting, message, run_asks, view_asks, page_asks, check_asks, Given, bytes_in, lines_in, later_bytes_in, IsLegendIn, AreBlocksIn, Give}
+use Rattle.p8_inputs.specs.Asks.{Ask, program, listing, mapping, hinting, message, run_asks, view_asks, page_asks, check_asks, Given, bytes_in}
+use Rattle.p8_inputs.specs.Asks.{lines_in, later_bytes_in, IsLegendIn, AreBlocksIn, Give}
 use Rattle.p8_inputs.specs.Legends.{range_in}
-use Rattle.p8_commands.specs.Commands.{Command, Dump, RangeOf, Named, Running, BuildSource, ListSource, MapSource, HintSource, ExplainFile, ExplainNumber, RunMemory, RunProgram, Save, Check, Serial as ReadPin, TypeFile, Wave as ShowWave, Plot as DrawPins, ViewRun, PageRun, Convert, Make, Help}
+use Rattle.p8_commands.specs.Commands.{Command, Dump, RangeOf, Named, Running, BuildSource, ListSource, MapSource, HintSource, ExplainFile}
+use Rattle.p8_commands.specs.Commands.{ExplainNumber, RunMemory, RunProgram, Save, Check, Serial as ReadPin, TypeFile, Wave as ShowWave}
+use Rattle.p8_commands.specs.Commands.{Plot as DrawPins, ViewRun, PageRun, Convert, Make, Help}
 use Rattle.p8_commands.specs.Pages.{help_text}
 
 -- what a wave shows, and what a picture of pins
@@ -145,7 +148,8 @@ IsTextOf (Save raw run) given text = IsToldOfRun (format_for raw run.file) run S
 IsTextOf (Check raw file history script) given text = (count : ℕ) × HasVerdict (format_for raw file) given (Good count) × (text ≡ good_line count)
 IsTextOf (ReadPin raw run pin bits) given text = IsToldOfRun (format_for raw run.file) run (Serial pin bits) given text
 IsTextOf (ShowWave alone raw all pins_only run) given text = IsToldOfRun (format_for raw run.file) run (Wave (selection_of all pins_only)) given text
-IsTextOf (DrawPins alone raw ascii run pins from to columns) given text = IsToldOfRun (format_for raw run.file) run (Plot (picture_of pins from to columns ascii)) given text
+IsTextOf (DrawPins alone raw ascii run pins from to columns) given text = IsToldOfRun (format_for raw run.file) run
+    (Plot (picture_of pins from to columns ascii)) given text
 IsTextOf (ViewRun raw pins_only quiet run cog from to dump) given text =
     IsViewOfRun (format_for raw run.file) run (options_of pins_only quiet cog from to) dump given text
 IsTextOf (PageRun raw run from to) given text = IsPageOfRun (format_for raw run.file) run from to given text

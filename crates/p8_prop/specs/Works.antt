@@ -72,7 +72,8 @@ IsAnswerTo files command (Bad history turn cause) = IsBadHistory files command h
 abbrev pub IsWork : Files → Command → Work → Type 0
 IsWork files command (Done answer) = IsAnswerTo files command answer
 IsWork files command (Run start finish) =
-    IsRunnable start finish × ((past : List Turn) → Ended asks (world_in start) past → IsWhole finish (world_in start) past → IsText files command (told_by finish (world_in start) past))
+    IsRunnable start finish × ((past : List Turn) → Ended asks (world_in start) past → IsWhole finish (world_in start) past →
+    IsText files command (told_by finish (world_in start) past))
 IsWork files command (View start view) =
     IsViewable start view × ((text : List ℕ) → IsViewed (world_in start) view.options view.legend view.dump text → IsText files command text)
 IsWork files command (Page start page) =
@@ -90,7 +91,8 @@ abbrev pub IsRunWork : Files → Format → Running → Finish → Work → Type
 IsRunWork files format run finish (Done answer) = ⊥
 IsRunWork files format run finish (Run start other) =
     IsRunnable start other
-    × ((past : List Turn) → Ended asks (world_in start) past → IsWhole other (world_in start) past → IsTextOfRun files format run finish (told_by other (world_in start) past))
+    × ((past : List Turn) → Ended asks (world_in start) past → IsWhole other (world_in start) past →
+    IsTextOfRun files format run finish (told_by other (world_in start) past))
 IsRunWork files format run finish (View start view) = ⊥
 IsRunWork files format run finish (Page start page) = ⊥
 

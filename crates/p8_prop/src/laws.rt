@@ -45,5 +45,6 @@ pub fn builds_keep_meaning()
 pub fn each_refusal_is_explained()
     ensures known { (r : Refusal) → explain_of (decimal (refusal_number r)) ≡ Some (ExplainNumber (refusal_number r)) }
     ensures told { (r : Refusal) → numbered (refusal_number r) ≡ Some r }
-    ensures page { explained.about ≡ codes "the top file of a project, a source in Spin; or the number of a refusal, 1 or 2 digits, from 1 to " ++ decimal (length refusals) }
+    ensures page { explained.about ≡ codes "the top file of a project, a source in Spin; or the number of a refusal, 1 or 2 digits, from 1 to " ++
+        decimal (length refusals) }
 {}

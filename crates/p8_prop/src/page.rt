@@ -45,8 +45,10 @@ pub(crate) fn page_work<S: Shelf>(
     ensures work { IfOk result (IsPageWork (S.files shelf.old) (format_for raw run.entry.file.now) (running run.entry) from to) }
     ensures stopped { IfErr result
         (Stops (S.files shelf.old) (S.faults shelf.old) (S.faults shelf.new) (page_asks (format_for raw run.entry.file.now) run.entry.file.now (name_of run.entry.script))) }
-    ensures all_read { IfOk result (λ _. AreAllRead (S.files shelf.old) (page_asks (format_for raw run.entry.file.now) run.entry.file.now (name_of run.entry.script)) (S.log shelf.old) (S.log shelf.new)) }
-    ensures so_far { AreReadSoFar (S.files shelf.old) (page_asks (format_for raw run.entry.file.now) run.entry.file.now (name_of run.entry.script)) (S.log shelf.old) (S.log shelf.new) }
+    ensures all_read { IfOk result (λ _. AreAllRead (S.files shelf.old)
+        (page_asks (format_for raw run.entry.file.now) run.entry.file.now (name_of run.entry.script)) (S.log shelf.old) (S.log shelf.new)) }
+    ensures so_far { AreReadSoFar (S.files shelf.old) (page_asks (format_for raw run.entry.file.now) run.entry.file.now (name_of run.entry.script))
+        (S.log shelf.old) (S.log shelf.new) }
     ensures later { S.faults shelf.old ≤ S.faults shelf.new }
     ensures kept { S.files shelf.new ≡ S.files shelf.old }
 {

@@ -80,8 +80,12 @@ pub(crate) fn view_work<S: Shelf>(
     ensures stopped { IfErr result
         (Stops (S.files shelf.old) (S.faults shelf.old) (S.faults shelf.new)
         (view_asks (format_for raw run.entry.file.now) run.entry.file.now (name_in (dump_if_any dump.entry)) (name_of run.entry.script))) }
-    ensures all_read { IfOk result (λ _. AreAllRead (S.files shelf.old) (view_asks (format_for raw run.entry.file.now) run.entry.file.now (name_in (dump_if_any dump.entry)) (name_of run.entry.script)) (S.log shelf.old) (S.log shelf.new)) }
-    ensures so_far { AreReadSoFar (S.files shelf.old) (view_asks (format_for raw run.entry.file.now) run.entry.file.now (name_in (dump_if_any dump.entry)) (name_of run.entry.script)) (S.log shelf.old) (S.log shelf.new) }
+    ensures all_read { IfOk result (λ _. AreAllRead (S.files shelf.old)
+        (view_asks (format_for raw run.entry.file.now) run.entry.file.now (name_in (dump_if_any dump.entry)) (name_of run.entry.script))
+        (S.log shelf.old) (S.log shelf.new)) }
+    ensures so_far { AreReadSoFar (S.files shelf.old)
+        (view_asks (format_for raw run.entry.file.now) run.entry.file.now (name_in (dump_if_any dump.entry)) (name_of run.entry.script))
+        (S.log shelf.old) (S.log shelf.new) }
     ensures later { S.faults shelf.old ≤ S.faults shelf.new }
     ensures kept { S.files shelf.new ≡ S.files shelf.old }
 {

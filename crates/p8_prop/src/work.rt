@@ -211,7 +211,8 @@ fn run_work<S: Shelf>(
     ensures work { IfOk result (IsRunWork (S.files shelf.old) format (running run.entry) finish) }
     ensures stopped { IfErr result
         (Stops (S.files shelf.old) (S.faults shelf.old) (S.faults shelf.new) (run_asks format run.entry.file.now (name_of run.entry.script))) }
-    ensures all_read { IfOk result (λ _. AreAllRead (S.files shelf.old) (run_asks format run.entry.file.now (name_of run.entry.script)) (S.log shelf.old) (S.log shelf.new)) }
+    ensures all_read { IfOk result (λ _. AreAllRead (S.files shelf.old) (run_asks format run.entry.file.now (name_of run.entry.script))
+        (S.log shelf.old) (S.log shelf.new)) }
     ensures so_far { AreReadSoFar (S.files shelf.old) (run_asks format run.entry.file.now (name_of run.entry.script)) (S.log shelf.old) (S.log shelf.new) }
     ensures later { S.faults shelf.old ≤ S.faults shelf.new }
     ensures kept { S.files shelf.new ≡ S.files shelf.old }
@@ -249,8 +250,10 @@ fn chosen_work<S: Shelf>(
     ensures work { IfOk result (IsRunWork (S.files shelf.old) (format_for raw run.entry.file.now) (running run.entry) finish) }
     ensures stopped { IfErr result
         (Stops (S.files shelf.old) (S.faults shelf.old) (S.faults shelf.new) (run_asks (format_for raw run.entry.file.now) run.entry.file.now (name_of run.entry.script))) }
-    ensures all_read { IfOk result (λ _. AreAllRead (S.files shelf.old) (run_asks (format_for raw run.entry.file.now) run.entry.file.now (name_of run.entry.script)) (S.log shelf.old) (S.log shelf.new)) }
-    ensures so_far { AreReadSoFar (S.files shelf.old) (run_asks (format_for raw run.entry.file.now) run.entry.file.now (name_of run.entry.script)) (S.log shelf.old) (S.log shelf.new) }
+    ensures all_read { IfOk result (λ _. AreAllRead (S.files shelf.old)
+        (run_asks (format_for raw run.entry.file.now) run.entry.file.now (name_of run.entry.script)) (S.log shelf.old) (S.log shelf.new)) }
+    ensures so_far { AreReadSoFar (S.files shelf.old) (run_asks (format_for raw run.entry.file.now) run.entry.file.now (name_of run.entry.script))
+        (S.log shelf.old) (S.log shelf.new) }
     ensures later { S.faults shelf.old ≤ S.faults shelf.new }
     ensures kept { S.files shelf.new ≡ S.files shelf.old }
 {
@@ -298,7 +301,8 @@ fn check_work<S: Shelf>(
     ensures work { IfOk result (IsWork (S.files shelf.old) (Check raw file.now history.now (name_of script.entry))) }
     ensures stopped { IfErr result
         (Stops (S.files shelf.old) (S.faults shelf.old) (S.faults shelf.new) (asks_of (Check raw file.now history.now (name_of script.entry)))) }
-    ensures all_read { IfOk result (λ _. AreAllRead (S.files shelf.old) (asks_of (Check raw file.now history.now (name_of script.entry))) (S.log shelf.old) (S.log shelf.new)) }
+    ensures all_read { IfOk result (λ _. AreAllRead (S.files shelf.old) (asks_of (Check raw file.now history.now (name_of script.entry)))
+        (S.log shelf.old) (S.log shelf.new)) }
     ensures so_far { AreReadSoFar (S.files shelf.old) (asks_of (Check raw file.now history.now (name_of script.entry))) (S.log shelf.old) (S.log shelf.new) }
     ensures later { S.faults shelf.old ≤ S.faults shelf.new }
     ensures kept { S.files shelf.new ≡ S.files shelf.old }

@@ -27,5 +27,10 @@ returns-in_err-file-clause-refused c =
 pub returns-in-Some-clause-refused : goal.returns-in-Some-clause-refused
 returns-in-Some-clause-refused c =
     let h = c.in-Some.ensures in
-    let reads : ReadsAs c.args.bytes.now (source_of c.in_ok-file.file) = record { short = c.in_ok-tokens.ensures.short; tokens = c.in_ok-tokens.tokens; cut = c.in_ok-tokens.ensures.tokens; read = c.in_ok-file.ensures.lines_read } in
+    let reads : ReadsAs c.args.bytes.now (source_of c.in_ok-file.file) = record {
+      short = c.in_ok-tokens.ensures.short;
+      tokens = c.in_ok-tokens.tokens;
+      cut = c.in_ok-tokens.ensures.tokens;
+      is = c.in_ok-file.ensures.read;
+    } in
     too_many (source_of c.in_ok-file.file) h.item reads h.stands (c.at.ensures ∙ ap (fault TooManyObjects) (sym h.there))
