@@ -89,7 +89,8 @@ fn push_run(
     changes: &[Change],
 ) -> Result<(), NoMemory>
     requires { span.from < 2 ^ 62 }
-    ensures { OnOk result (out.new.items ≡ out.old.items ++ blocks_text (run_blocks file.now span.from span.to view.now (kept 0 span.end (lines_of changes.now)))) }
+    ensures { OnOk result (out.new.items ≡ out.old.items ++
+        blocks_text (run_blocks file.now span.from span.to view.now (kept 0 span.end (lines_of changes.now)))) }
 {
     push_block(out, Kind::File, file)?;
     push_range_block(alloc, out, span)?;

@@ -43,7 +43,7 @@ nav { display: flex; flex-wrap: wrap; gap: 6px; margin-bottom: 8px; }
 button, select { padding: 4px 9px; border: 1px solid var(--rule); border-radius: 5px; background: var(--raised); color: inherit; font: inherit; }
 :focus-visible { outline: 2px solid var(--accent); outline-offset: -1px; }
 #here { min-height: 1.45em; margin: 6px 0; font-family: ui-monospace, monospace; overflow-wrap: anywhere; }
-#ends { margin: 0; padding-left: 18px; columns: 2 32em; overflow-wrap: anywhere; }
+#ends { margin: 0; padding-left: 18px; columns: 2 32em; column-gap: 24px; overflow-wrap: anywhere; }
 
 /* The lanes of the cogs and the waves of the pins, over clocks. */
 #chart { display: block; width: 100%; border: 1px solid var(--rule); border-radius: 5px; touch-action: pan-y; user-select: none; }
@@ -69,7 +69,7 @@ button, select { padding: 4px 9px; border: 1px solid var(--rule); border-radius:
 #cursor { stroke: var(--accent); stroke-width: 1.5px; }
 
 /* The list of turns, the source, and the hub. */
-#panes { display: grid; grid-template-columns: minmax(0, 3.6fr) minmax(0, 3fr) minmax(190px, 1.2fr); gap: 12px; }
+#panes { display: grid; grid-template-columns: minmax(0, 3.6fr) minmax(0, 3fr) minmax(220px, 1.4fr); gap: 12px; }
 #list, #source, #held { position: relative; height: 380px; overflow: auto; border: 1px solid var(--rule); border-radius: 5px; }
 #list, #source, #held { font: 13px/1.5 ui-monospace, monospace; }
 #held { height: 210px; }
@@ -90,7 +90,9 @@ button, select { padding: 4px 9px; border: 1px solid var(--rule); border-radius:
 .line code { font: inherit; white-space: pre; }
 .line.here { background: var(--chosen); font-weight: bold; }
 #held table { width: 100%; border-collapse: collapse; }
-#held th, #held td { padding: 1px 6px; font-weight: normal; text-align: left; overflow-wrap: anywhere; }
+#held th, #held td { padding: 1px 6px; font-weight: normal; text-align: left; }
+#held th { overflow-wrap: anywhere; }
+#held td { width: 1%; white-space: nowrap; }
 #held .touched { background: var(--chosen); }
 #hub { display: block; width: 120px; height: 120px; }
 #hub-words { margin: 4px 0; }
