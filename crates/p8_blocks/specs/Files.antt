@@ -54,7 +54,8 @@ lines_of_row row = option_map lines_in (line_of_row row)
 pub data Declare (h : Heights) {X : Type 0} (value : List Piece → Option (List X)) (q : State) : List X → List LineToken → Type 0 where
   no_line : Declare h value q [] []
   a_blank : {xs : List X} {ts : List LineToken} (t : LineToken) → word t ≡ word_case.LineEnd → Declare h value q xs ts → Declare h value q xs (ts ++ t ∷ [])
-  a_line : {xs ys : List X} {ts : List LineToken} (us : List LineToken) (row : List Piece) → IsLine h q row us → value row ≡ Some ys → Declare h value q xs ts → Declare h value q (xs ++ ys) (ts ++ us)
+  a_line : {xs ys : List X} {ts : List LineToken} (us : List LineToken) (row : List Piece) → IsLine h q row us → value row ≡ Some ys →
+      Declare h value q xs ts → Declare h value q (xs ++ ys) (ts ++ us)
 
 -- after the colon of a CASE's item its line of the text goes on
 abbrev pub is_item : Kind → Bool
@@ -72,8 +73,11 @@ begins_text q = false
 -- colon of a CASE's item a line may begin on the same line of the text.
 pub data AreLines (h : Heights) : List lines.Line → Bool → List LineToken → Type 0 where
   no_line : AreLines h [] false []
-  a_blank : {ls : List lines.Line} {b : Bool} {ts : List LineToken} (t : LineToken) → word t ≡ word_case.LineEnd → AreLines h ls b ts → AreLines h ls false (ts ++ t ∷ [])
-  a_line : {ls : List lines.Line} {b : Bool} {ts : List LineToken} {k : Kind} (q : State) (row : List Piece) (t : LineToken) (us : List LineToken) → IsTrue (begins_line q) → begins_text q && b ≡ false → IsLine h q row (t ∷ us) → kind_of_row row ≡ Some k → AreLines h ls b ts → AreLines h (ls ++ lines.line t.place k ∷ []) (is_item k) (ts ++ t ∷ us)
+  a_blank : {ls : List lines.Line} {b : Bool} {ts : List LineToken} (t : LineToken) → word t ≡ word_case.LineEnd → AreLines h ls b ts →
+      AreLines h ls false (ts ++ t ∷ [])
+  a_line : {ls : List lines.Line} {b : Bool} {ts : List LineToken} {k : Kind} (q : State) (row : List Piece) (t : LineToken) (us : List LineToken) →
+      IsTrue (begins_line q) → begins_text q && b ≡ false → IsLine h q row (t ∷ us) → kind_of_row row ≡ Some k → AreLines h ls b ts →
+      AreLines h (ls ++ lines.line t.place k ∷ []) (is_item k) (ts ++ t ∷ us)
 
 -- a block's word, in column 1
 pub record IsHead (w : Word) (t : LineToken) : Type 0 where
@@ -86,15 +90,36 @@ method_word false = word_case.Pri
 
 -- a method with this body
 abbrev pub with_body : MethodTree → Statements → MethodTree
-with_body m ss = record { place = m.place; public = m.public; name = m.name; params = m.params; param_places = m.param_places; result_name = m.result_name; result_place = m.result_place; locals = m.locals; body = ss }
+with_body m ss = record {
+  place = m.place;
+  public = m.public;
+  name = m.name;
+  params = m.params;
+  param_places = m.param_places;
+  result_name = m.result_name;
+  result_place = m.result_place;
+  locals = m.locals;
+  body = ss;
+}
 
 -- these tokens are this block
 pub data IsBlock (h : Heights) : BlockTree → List LineToken → Type 0 where
-  con : {xs ys : List Constant} {vs : List LineToken} (t : LineToken) (us : List LineToken) (row : List Piece) → IsHead word_case.Con t → IsLine h state.ConHead row us → constants_of_row row ≡ Some xs → Declare h constants_of_row state.ConItem ys vs → IsBlock h (sources.Con (xs ++ ys)) (t ∷ (us ++ vs))
-  var : {xs ys : List Declared} {vs : List LineToken} (t : LineToken) (us : List LineToken) (row : List Piece) → IsHead word_case.Var t → IsLine h state.VarHead row us → variables_of_row row ≡ Some xs → Declare h variables_of_row state.VarLine ys vs → IsBlock h (sources.Var (xs ++ ys)) (t ∷ (us ++ vs))
-  obj : {xs ys : List Child} {vs : List LineToken} (t : LineToken) (us : List LineToken) (row : List Piece) → IsHead word_case.Obj t → IsLine h state.ObjHead row us → objects_of_row row ≡ Some xs → Declare h objects_of_row state.ObjLine ys vs → IsBlock h (sources.Obj (xs ++ ys)) (t ∷ (us ++ vs))
-  dat : {xs ys : List sources.Line} {vs : List LineToken} (t : LineToken) (us : List LineToken) (row : List Piece) → IsHead word_case.Dat t → IsLine h state.DatHead row us → lines_of_row row ≡ Some xs → Declare h lines_of_row state.DatLine ys vs → IsBlock h (sources.Dat (xs ++ ys)) (t ∷ (us ++ vs))
-  method : {m : MethodTree} {ls : List lines.Line} {b : Bool} {ss : Statements} {vs : List LineToken} (public : Bool) (t : LineToken) (us : List LineToken) (row : List Piece) → IsHead (method_word public) t → IsLine h state.MethodName row us → method_of_row public row ≡ Some m → AreLines h ls b vs → AreStatements ss ls → IsTrue (leave_loops false ss) → IsBlock h (sources.Method (with_body m ss)) (t ∷ (us ++ vs))
+  con : {xs ys : List Constant} {vs : List LineToken} (t : LineToken) (us : List LineToken) (row : List Piece) → IsHead word_case.Con t →
+      IsLine h state.ConHead row us → constants_of_row row ≡ Some xs → Declare h constants_of_row state.ConItem ys vs →
+      IsBlock h (sources.Con (xs ++ ys)) (t ∷ (us ++ vs))
+  var : {xs ys : List Declared} {vs : List LineToken} (t : LineToken) (us : List LineToken) (row : List Piece) → IsHead word_case.Var t →
+      IsLine h state.VarHead row us → variables_of_row row ≡ Some xs → Declare h variables_of_row state.VarLine ys vs →
+      IsBlock h (sources.Var (xs ++ ys)) (t ∷ (us ++ vs))
+  obj : {xs ys : List Child} {vs : List LineToken} (t : LineToken) (us : List LineToken) (row : List Piece) → IsHead word_case.Obj t →
+      IsLine h state.ObjHead row us → objects_of_row row ≡ Some xs → Declare h objects_of_row state.ObjLine ys vs →
+      IsBlock h (sources.Obj (xs ++ ys)) (t ∷ (us ++ vs))
+  dat : {xs ys : List sources.Line} {vs : List LineToken} (t : LineToken) (us : List LineToken) (row : List Piece) → IsHead word_case.Dat t →
+      IsLine h state.DatHead row us → lines_of_row row ≡ Some xs → Declare h lines_of_row state.DatLine ys vs →
+      IsBlock h (sources.Dat (xs ++ ys)) (t ∷ (us ++ vs))
+  method : {m : MethodTree} {ls : List lines.Line} {b : Bool} {ss : Statements} {vs : List LineToken} (public : Bool) (t : LineToken)
+      (us : List LineToken) (row : List Piece) → IsHead (method_word public) t → IsLine h state.MethodName row us →
+      method_of_row public row ≡ Some m → AreLines h ls b vs → AreStatements ss ls → IsTrue (leave_loops false ss) →
+      IsBlock h (sources.Method (with_body m ss)) (t ∷ (us ++ vs))
 
 -- what stands before the first block's word is a CON, if it declares anything
 abbrev pub first_block : List Constant → Source
@@ -152,7 +177,8 @@ pub record StopsAt (ts : List LineToken) (n : ℕ) (p : Place) : Type 0 where
 -- After these tokens the lines that begin with this one are those that are read from this state.
 pub record LinesFrom (ts : List LineToken) (t : LineToken) (q : State) : Type 0 where
   pub may : (row : List Piece) (us : List LineToken) → Row q row (t ∷ us) → (s : Source) × IsFile any_height s (ts ++ t ∷ us)
-  pub must : (rest : List LineToken) (s : Source) → IsFile any_height s (ts ++ t ∷ rest) → (row : List Piece) × (us : List LineToken) × (vs : List LineToken) × Row q row (t ∷ us) × (us ++ vs ≡ rest)
+  pub must : (rest : List LineToken) (s : Source) → IsFile any_height s (ts ++ t ∷ rest) →
+      (row : List Piece) × (us : List LineToken) × (vs : List LineToken) × Row q row (t ∷ us) × (us ++ vs ≡ rest)
 
 -- some of these tokens, from the first one, begin a file, and each file that begins so goes past the limits
 pub record PassesLimits (ts : List LineToken) : Type 0 where
@@ -171,11 +197,14 @@ pub data EndsLine : List LineToken → Type 0 where
 -- begins after whose colon it stands.
 pub data LineBegins : List LineToken → LineToken → Place → Type 0 where
   here : {ts : List LineToken} {t : LineToken} → EndsLine ts → LineBegins ts t t.place
-  behind_item : {ts : List LineToken} {t u : LineToken} {p : Place} {row : List Piece} (us : List LineToken) → LinesFrom ts u state.CaseItem → Row state.CaseItem row (u ∷ us) → LineBegins ts u p → LineBegins (ts ++ u ∷ us) t p
+  behind_item : {ts : List LineToken} {t u : LineToken} {p : Place} {row : List Piece} (us : List LineToken) → LinesFrom ts u state.CaseItem →
+      Row state.CaseItem row (u ∷ us) → LineBegins ts u p → LineBegins (ts ++ u ∷ us) t p
 
 -- what goes past the limits begins at this place
 pub data PassesAt (ts : List LineToken) (p : Place) : Type 0 where
   -- an expression that is too high
-  by_height : (before : List LineToken) (t : LineToken) (us : List LineToken) (q : State) → ts ≡ before ++ t ∷ us → LinesFrom before t q → Reads q (t ∷ us) (refused (refusal_number TooNested) p) → PassesAt ts p
+  by_height : (before : List LineToken) (t : LineToken) (us : List LineToken) (q : State) → ts ≡ before ++ t ∷ us → LinesFrom before t q →
+      Reads q (t ∷ us) (refused (refusal_number TooNested) p) → PassesAt ts p
   -- the line of the text with the token that opens a block too many
-  by_depth : (before : List LineToken) (t : LineToken) (us : List LineToken) → ts ≡ before ++ t ∷ us → Begins (before ++ t ∷ []) → ((rest : List LineToken) (s : Source) → IsFile any_height s (before ++ t ∷ rest) → ¬ IsShallow s) → LineBegins before t p → PassesAt ts p
+  by_depth : (before : List LineToken) (t : LineToken) (us : List LineToken) → ts ≡ before ++ t ∷ us → Begins (before ++ t ∷ []) →
+      ((rest : List LineToken) (s : Source) → IsFile any_height s (before ++ t ∷ rest) → ¬ IsShallow s) → LineBegins before t p → PassesAt ts p

@@ -2,7 +2,8 @@
 --
 -- Lines are read one after the other. CON, VAR, OBJ, PUB, PRI and DAT in column 1 begin a block, and what stands
 -- before the first of them is a CON. A line of a method is what the open blocks of its column make of it.
-use Rattle.std.specs.Prelude.{◌≡◌, ◌≢◌, ℕ, ◌+◌, ◌≤◌, Bool, true, false, not, ◌&&◌, IsTrue, List, [], ◌∷◌, ◌++◌, length, if◌then◌else◌, Option, Some, None, unwrap_or}
+use Rattle.std.specs.Prelude.{◌≡◌, ◌≢◌, ℕ, ◌+◌, ◌≤◌, Bool, true, false, not, ◌&&◌, IsTrue, List, [], ◌∷◌, ◌++◌, length, if◌then◌else◌, Option, Some}
+use Rattle.std.specs.Prelude.{None, unwrap_or}
 use Rattle.std.specs.List.{list_any}
 use Rattle.p8_tree.specs.declared.places.Place.{Place}
 use Rattle.p8_tree.specs.Sources as trees
@@ -108,15 +109,20 @@ pub data Entry : Type 0 where
 pub data Enters (ls : List lines.Line) (b : Bool) (t : LineToken) : Entry → Type 0 where
   -- an ELSE kind goes on with the chain at its column, unless that has its ELSE
   goes_on : IsTrue (goes_on_chain b (word t)) → HasChain chain.Begun t.place.column (last_up_to t.place.column ls) → Enters ls b t (from state.ChainLine)
-  chain_over : IsTrue (goes_on_chain b (word t)) → HasChain chain.Ended t.place.column (last_up_to t.place.column ls) → Enters ls b t (barred (number_of in_method (word t)))
-  no_chain : IsTrue (goes_on_chain b (word t)) → HasChain chain.Missing t.place.column (last_up_to t.place.column ls) → Enters ls b t (barred (refusal_number BadIndent))
+  chain_over : IsTrue (goes_on_chain b (word t)) → HasChain chain.Ended t.place.column (last_up_to t.place.column ls) →
+      Enters ls b t (barred (number_of in_method (word t)))
+  no_chain : IsTrue (goes_on_chain b (word t)) → HasChain chain.Missing t.place.column (last_up_to t.place.column ls) →
+      Enters ls b t (barred (refusal_number BadIndent))
   -- WHILE and UNTIL end the plain REPEAT at their column
   loop_end : IsTrue (ends_loop b (word t)) → IsAt is_plain_repeat t.place.column (last_up_to t.place.column ls) → Enters ls b t (from state.LoopEndLine)
-  no_loop : IsTrue (ends_loop b (word t)) → ¬ IsAt is_plain_repeat t.place.column (last_up_to t.place.column ls) → Enters ls b t (barred (refusal_number BadIndent))
+  no_loop : IsTrue (ends_loop b (word t)) → ¬ IsAt is_plain_repeat t.place.column (last_up_to t.place.column ls) →
+      Enters ls b t (barred (refusal_number BadIndent))
   -- any other line is a statement, or an item directly under a CASE, which takes nothing more after its OTHER
-  statement : goes_on_chain b (word t) ≡ false → ends_loop b (word t) ≡ false → HasRoom room.Statement (innermost t.place.column ls) → Enters ls b t (from state.Statement)
+  statement : goes_on_chain b (word t) ≡ false → ends_loop b (word t) ≡ false → HasRoom room.Statement (innermost t.place.column ls) →
+      Enters ls b t (from state.Statement)
   item : goes_on_chain b (word t) ≡ false → ends_loop b (word t) ≡ false → HasRoom room.Item (innermost t.place.column ls) → Enters ls b t (from state.CaseItem)
-  after_other : goes_on_chain b (word t) ≡ false → ends_loop b (word t) ≡ false → HasRoom room.Nothing (innermost t.place.column ls) → Enters ls b t (barred (number_of in_method (word t)))
+  after_other : goes_on_chain b (word t) ≡ false → ends_loop b (word t) ≡ false → HasRoom room.Nothing (innermost t.place.column ls) →
+      Enters ls b t (barred (number_of in_method (word t)))
 
 -- a line that opens a block
 abbrev pub is_opener_word : Word → Bool
@@ -156,28 +162,42 @@ begun_by k b t = if is_item k then Some (begin b t) else None
 
 -- a block's word and what follows it on its line begin this part
 pub data Opens (t : LineToken) (ts : List LineToken) : Part → List LineToken → Type 0 where
-  con : {xs : List Constant} {rest : List LineToken} → word t ≡ word_case.Con → ReadsAs constants_of_row state.ConHead ts xs rest → Opens t ts (constants xs) rest
-  var : {xs : List Declared} {rest : List LineToken} → word t ≡ word_case.Var → ReadsAs variables_of_row state.VarHead ts xs rest → Opens t ts (variables xs) rest
+  con : {xs : List Constant} {rest : List LineToken} → word t ≡ word_case.Con → ReadsAs constants_of_row state.ConHead ts xs rest →
+      Opens t ts (constants xs) rest
+  var : {xs : List Declared} {rest : List LineToken} → word t ≡ word_case.Var → ReadsAs variables_of_row state.VarHead ts xs rest →
+      Opens t ts (variables xs) rest
   obj : {xs : List Child} {rest : List LineToken} → word t ≡ word_case.Obj → ReadsAs objects_of_row state.ObjHead ts xs rest → Opens t ts (objects xs) rest
-  pub_method : {m : MethodTree} {rest : List LineToken} → word t ≡ word_case.Pub → ReadsAs (method_of_row true) state.MethodName ts m rest → Opens t ts (method m []) rest
-  pri_method : {m : MethodTree} {rest : List LineToken} → word t ≡ word_case.Pri → ReadsAs (method_of_row false) state.MethodName ts m rest → Opens t ts (method m []) rest
-  dat : {o : Option trees.Line} {rest : List LineToken} → word t ≡ word_case.Dat → ReadsAs line_of_row state.DatHead ts o rest → Opens t ts (assembly (lines_in o)) rest
+  pub_method : {m : MethodTree} {rest : List LineToken} → word t ≡ word_case.Pub → ReadsAs (method_of_row true) state.MethodName ts m rest →
+      Opens t ts (method m []) rest
+  pri_method : {m : MethodTree} {rest : List LineToken} → word t ≡ word_case.Pri → ReadsAs (method_of_row false) state.MethodName ts m rest →
+      Opens t ts (method m []) rest
+  dat : {o : Option trees.Line} {rest : List LineToken} → word t ≡ word_case.Dat → ReadsAs line_of_row state.DatHead ts o rest →
+      Opens t ts (assembly (lines_in o)) rest
 
 -- a line of a block that isn't a method is added to it
 pub data Extends (ts : List LineToken) : List Part → List Part → List LineToken → Type 0 where
   first_constants : {xs : List Constant} {rest : List LineToken} → ReadsAs constants_of_row state.ConItem ts xs rest → Extends ts [] (constants xs ∷ []) rest
-  more_constants : {xs ys : List Constant} {ps : List Part} {rest : List LineToken} → ReadsAs constants_of_row state.ConItem ts ys rest → Extends ts (constants xs ∷ ps) (constants (xs ++ ys) ∷ ps) rest
-  more_variables : {xs ys : List Declared} {ps : List Part} {rest : List LineToken} → ReadsAs variables_of_row state.VarLine ts ys rest → Extends ts (variables xs ∷ ps) (variables (xs ++ ys) ∷ ps) rest
-  more_objects : {xs ys : List Child} {ps : List Part} {rest : List LineToken} → ReadsAs objects_of_row state.ObjLine ts ys rest → Extends ts (objects xs ∷ ps) (objects (xs ++ ys) ∷ ps) rest
-  more_assembly : {xs : List trees.Line} {o : Option trees.Line} {ps : List Part} {rest : List LineToken} → ReadsAs line_of_row state.DatLine ts o rest → Extends ts (assembly xs ∷ ps) (assembly (xs ++ lines_in o) ∷ ps) rest
+  more_constants : {xs ys : List Constant} {ps : List Part} {rest : List LineToken} → ReadsAs constants_of_row state.ConItem ts ys rest →
+      Extends ts (constants xs ∷ ps) (constants (xs ++ ys) ∷ ps) rest
+  more_variables : {xs ys : List Declared} {ps : List Part} {rest : List LineToken} → ReadsAs variables_of_row state.VarLine ts ys rest →
+      Extends ts (variables xs ∷ ps) (variables (xs ++ ys) ∷ ps) rest
+  more_objects : {xs ys : List Child} {ps : List Part} {rest : List LineToken} → ReadsAs objects_of_row state.ObjLine ts ys rest →
+      Extends ts (objects xs ∷ ps) (objects (xs ++ ys) ∷ ps) rest
+  more_assembly : {xs : List trees.Line} {o : Option trees.Line} {ps : List Part} {rest : List LineToken} →
+      ReadsAs line_of_row state.DatLine ts o rest → Extends ts (assembly xs ∷ ps) (assembly (xs ++ lines_in o) ∷ ps) rest
 
 -- One line without a refusal leads from a position, with these tokens to come, to another.
 pub data Step : Position → List LineToken → Position → List LineToken → Type 0 where
   -- a line's end, where no line begins
   blank : {ps : List Part} {b : Option Place} {t : LineToken} {ts : List LineToken} → word t ≡ word_case.LineEnd → Step (at ps b) (t ∷ ts) (at ps None) ts
-  head : {ps : List Part} {p : Part} {b : Option Place} {t : LineToken} {ts rest : List LineToken} → IsHead t → Opens t ts p rest → Step (at ps b) (t ∷ ts) (at (p ∷ ps) None) rest
-  declaration : {ps qs : List Part} {b : Option Place} {t : LineToken} {ts rest : List LineToken} → word t ≢ word_case.LineEnd → ¬ IsHead t → Extends (t ∷ ts) ps qs rest → Step (at ps b) (t ∷ ts) (at qs None) rest
-  method_line : {m : MethodTree} {ls : List lines.Line} {ps : List Part} {b : Option Place} {t : LineToken} {ts rest : List LineToken} {q : State} {k : Kind} → word t ≢ word_case.LineEnd → ¬ IsHead t → Enters ls (is_begun b) t (from q) → ¬ HasNoLoop ls q t → ¬ IsTooDeep ls q t → ReadsAs kind_of_row q (t ∷ ts) k rest → Step (at (method m ls ∷ ps) b) (t ∷ ts) (at (method m (ls ++ lines.line t.place k ∷ []) ∷ ps) (begun_by k b t)) rest
+  head : {ps : List Part} {p : Part} {b : Option Place} {t : LineToken} {ts rest : List LineToken} → IsHead t → Opens t ts p rest →
+      Step (at ps b) (t ∷ ts) (at (p ∷ ps) None) rest
+  declaration : {ps qs : List Part} {b : Option Place} {t : LineToken} {ts rest : List LineToken} → word t ≢ word_case.LineEnd → ¬ IsHead t →
+      Extends (t ∷ ts) ps qs rest → Step (at ps b) (t ∷ ts) (at qs None) rest
+  method_line : {m : MethodTree} {ls : List lines.Line} {ps : List Part} {b : Option Place} {t : LineToken} {ts rest : List LineToken} {q : State}
+      {k : Kind} → word t ≢ word_case.LineEnd → ¬ IsHead t → Enters ls (is_begun b) t (from q) → ¬ HasNoLoop ls q t → ¬ IsTooDeep ls q t →
+      ReadsAs kind_of_row q (t ∷ ts) k rest → Step (at (method m ls ∷ ps) b) (t ∷ ts)
+      (at (method m (ls ++ lines.line t.place k ∷ []) ∷ ps) (begun_by k b t)) rest
 
 -- Lines without a refusal lead from a position to another.
 pub data Goes : Position → List LineToken → Position → List LineToken → Type 0 where
@@ -190,13 +210,22 @@ IsRefusedAt p (refused n q) = q ≡ p
 
 -- The line that begins with the first of these tokens has this refusal first.
 pub data Fails : Position → List LineToken → ℕ → Place → Type 0 where
-  head_fails : {ps : List Part} {b : Option Place} {t : LineToken} {ts : List LineToken} {n : ℕ} {p : Place} → IsHead t → Reads (head_state (word t)) ts (refused n p) → Fails (at ps b) (t ∷ ts) n p
-  declaration_fails : {ps : List Part} {b : Option Place} {t : LineToken} {ts : List LineToken} {n : ℕ} {p : Place} → word t ≢ word_case.LineEnd → ¬ IsHead t → IsTrue (declares ps) → Reads (line_state ps) (t ∷ ts) (refused n p) → Fails (at ps b) (t ∷ ts) n p
-  entry_fails : {m : MethodTree} {ls : List lines.Line} {ps : List Part} {b : Option Place} {t : LineToken} {ts : List LineToken} {n : ℕ} → word t ≢ word_case.LineEnd → ¬ IsHead t → Enters ls (is_begun b) t (barred n) → Fails (at (method m ls ∷ ps) b) (t ∷ ts) n t.place
-  no_loop_fails : {m : MethodTree} {ls : List lines.Line} {ps : List Part} {b : Option Place} {t : LineToken} {ts : List LineToken} {q : State} → word t ≢ word_case.LineEnd → ¬ IsHead t → Enters ls (is_begun b) t (from q) → HasNoLoop ls q t → Fails (at (method m ls ∷ ps) b) (t ∷ ts) (refusal_number LoopWord) t.place
+  head_fails : {ps : List Part} {b : Option Place} {t : LineToken} {ts : List LineToken} {n : ℕ} {p : Place} → IsHead t →
+      Reads (head_state (word t)) ts (refused n p) → Fails (at ps b) (t ∷ ts) n p
+  declaration_fails : {ps : List Part} {b : Option Place} {t : LineToken} {ts : List LineToken} {n : ℕ} {p : Place} → word t ≢ word_case.LineEnd →
+      ¬ IsHead t → IsTrue (declares ps) → Reads (line_state ps) (t ∷ ts) (refused n p) → Fails (at ps b) (t ∷ ts) n p
+  entry_fails : {m : MethodTree} {ls : List lines.Line} {ps : List Part} {b : Option Place} {t : LineToken} {ts : List LineToken} {n : ℕ} →
+      word t ≢ word_case.LineEnd → ¬ IsHead t → Enters ls (is_begun b) t (barred n) → Fails (at (method m ls ∷ ps) b) (t ∷ ts) n t.place
+  no_loop_fails : {m : MethodTree} {ls : List lines.Line} {ps : List Part} {b : Option Place} {t : LineToken} {ts : List LineToken} {q : State} →
+      word t ≢ word_case.LineEnd → ¬ IsHead t → Enters ls (is_begun b) t (from q) → HasNoLoop ls q t →
+      Fails (at (method m ls ∷ ps) b) (t ∷ ts) (refusal_number LoopWord) t.place
   -- one block too many is told where the line of the text begins, unless the first token begins no line there
-  too_deep_fails : {m : MethodTree} {ls : List lines.Line} {ps : List Part} {b : Option Place} {t : LineToken} {ts : List LineToken} {q : State} {o : Outcome} → word t ≢ word_case.LineEnd → ¬ IsHead t → Enters ls (is_begun b) t (from q) → IsTooDeep ls q t → Reads q (t ∷ ts) o → ¬ IsRefusedAt t.place o → Fails (at (method m ls ∷ ps) b) (t ∷ ts) (refusal_number TooNested) (begin b t)
-  line_fails : {m : MethodTree} {ls : List lines.Line} {ps : List Part} {b : Option Place} {t : LineToken} {ts : List LineToken} {q : State} {n : ℕ} {p : Place} → word t ≢ word_case.LineEnd → ¬ IsHead t → Enters ls (is_begun b) t (from q) → ¬ HasNoLoop ls q t → (IsTooDeep ls q t → p ≡ t.place) → Reads q (t ∷ ts) (refused n p) → Fails (at (method m ls ∷ ps) b) (t ∷ ts) n p
+  too_deep_fails : {m : MethodTree} {ls : List lines.Line} {ps : List Part} {b : Option Place} {t : LineToken} {ts : List LineToken} {q : State}
+      {o : Outcome} → word t ≢ word_case.LineEnd → ¬ IsHead t → Enters ls (is_begun b) t (from q) → IsTooDeep ls q t → Reads q (t ∷ ts) o →
+      ¬ IsRefusedAt t.place o → Fails (at (method m ls ∷ ps) b) (t ∷ ts) (refusal_number TooNested) (begin b t)
+  line_fails : {m : MethodTree} {ls : List lines.Line} {ps : List Part} {b : Option Place} {t : LineToken} {ts : List LineToken} {q : State} {n : ℕ}
+      {p : Place} → word t ≢ word_case.LineEnd → ¬ IsHead t → Enters ls (is_begun b) t (from q) → ¬ HasNoLoop ls q t →
+      (IsTooDeep ls q t → p ≡ t.place) → Reads q (t ∷ ts) (refused n p) → Fails (at (method m ls ∷ ps) b) (t ∷ ts) n p
 
 -- a part as a block of the tree: the lines of a method are its statements
 pub data IsBlock : Part → BlockTree → Type 0 where

@@ -27,7 +27,8 @@ use Rattle.p8_lines.specs.declared.state.State.TheVariants as state
 use Rattle.p8_lines.specs.Tokens.{LineToken, word}
 use Rattle.p8_lines.specs.Lines.{Reads, refused, number_of}
 use Rattle.p8_declarations.specs.Methods.{method_of_row}
-use Rattle.p8_blocks.specs.Files.{any_height, IsLine, AreLines, IsHead, method_word, IsFile, IsFileWithinLimits, Begins, is_chain_word, is_loop_end_word, is_loop_word}
+use Rattle.p8_blocks.specs.Files.{any_height, IsLine, AreLines, IsHead, method_word, IsFile, IsFileWithinLimits, Begins, is_chain_word}
+use Rattle.p8_blocks.specs.Files.{is_loop_end_word, is_loop_word}
 use Rattle.p8_blocks.specs.Reading.{IsHead as BeginsBlock, is_block_word, head_state, Enters, from, IsTooDeep}
 
 -- some file within the limits begins with these tokens
@@ -60,7 +61,10 @@ setting_behind ts = setting_from in_declaration false ts
 -- These tokens are a file whose last block is a method, and these are its lines; whether a line of the text is begun is
 -- said as in `AreLines`.
 pub data EndsInMethod : List LineToken → List lines.Line → Bool → Type 0 where
-  method : {s : Source} {m : MethodTree} {ls : List lines.Line} {b : Bool} {ss : Statements} {ts vs : List LineToken} (public : Bool) (t : LineToken) (us : List LineToken) (row : List Piece) → IsFile any_height s ts → IsHead (method_word public) t → IsLine any_height state.MethodName row us → method_of_row public row ≡ Some m → AreLines any_height ls b vs → AreStatements ss ls → IsTrue (leave_loops false ss) → EndsInMethod (ts ++ t ∷ (us ++ vs)) ls b
+  method : {s : Source} {m : MethodTree} {ls : List lines.Line} {b : Bool} {ss : Statements} {ts vs : List LineToken} (public : Bool) (t : LineToken)
+      (us : List LineToken) (row : List Piece) → IsFile any_height s ts → IsHead (method_word public) t → IsLine any_height state.MethodName row us →
+      method_of_row public row ≡ Some m → AreLines any_height ls b vs → AreStatements ss ls → IsTrue (leave_loops false ss) →
+      EndsInMethod (ts ++ t ∷ (us ++ vs)) ls b
 
 -- After these lines an ELSE kind has no chain at its column, begun or ended, or WHILE or UNTIL no plain REPEAT.
 pub data HasNoOpener (ls : List lines.Line) (t : LineToken) : Type 0 where
@@ -120,9 +124,12 @@ last_state (b ∷ c ∷ bs) = last_state (c ∷ bs)
 
 -- After these tokens a line begins with this one, or what stands after a block's word, and is read from this state.
 pub data BeginsLine : List LineToken → LineToken → State → Type 0 where
-  behind_word : {s : Source} {ts : List LineToken} {t : LineToken} (u : LineToken) → IsFile any_height s ts → BeginsBlock u → BeginsLine (ts ++ u ∷ []) t (head_state (word u))
-  declaration : {s : Source} {ts : List LineToken} {t : LineToken} {q : State} → IsFile any_height s ts → last_state s ≡ Some q → word t ≢ word_case.LineEnd → ¬ BeginsBlock t → BeginsLine ts t q
-  method_line : {ls : List lines.Line} {b : Bool} {ts : List LineToken} {t : LineToken} {q : State} → EndsInMethod ts ls b → word t ≢ word_case.LineEnd → ¬ BeginsBlock t → Enters ls b t (from q) → BeginsLine ts t q
+  behind_word : {s : Source} {ts : List LineToken} {t : LineToken} (u : LineToken) → IsFile any_height s ts → BeginsBlock u →
+      BeginsLine (ts ++ u ∷ []) t (head_state (word u))
+  declaration : {s : Source} {ts : List LineToken} {t : LineToken} {q : State} → IsFile any_height s ts → last_state s ≡ Some q →
+      word t ≢ word_case.LineEnd → ¬ BeginsBlock t → BeginsLine ts t q
+  method_line : {ls : List lines.Line} {b : Bool} {ts : List LineToken} {t : LineToken} {q : State} → EndsInMethod ts ls b →
+      word t ≢ word_case.LineEnd → ¬ BeginsBlock t → Enters ls b t (from q) → BeginsLine ts t q
 
 -- The line of a method that begins with this token opens a block too many.
 pub record OpensTooMany (before : List LineToken) (t : LineToken) : Type 0 where
@@ -139,7 +146,8 @@ pub record OpensTooMany (before : List LineToken) (t : LineToken) : Type 0 where
 -- refused, at the expression's first token or, in an action, at the line's.
 pub data NestedAt (before : List LineToken) (t : LineToken) (after : List LineToken) : Place → Type 0 where
   by_depth : OpensTooMany before t → NestedAt before t after (line_begin before t)
-  by_height : {p : Place} (ts : List LineToken) (u : LineToken) (us vs : List LineToken) (q : State) → before ≡ ts ++ us → us ++ t ∷ after ≡ u ∷ vs → ¬ OpensTooMany before t → BeginsLine ts u q → Reads q (u ∷ vs) (refused (refusal_number TooNested) p) → NestedAt before t after p
+  by_height : {p : Place} (ts : List LineToken) (u : LineToken) (us vs : List LineToken) (q : State) → before ≡ ts ++ us → us ++ t ∷ after ≡ u ∷ vs →
+      ¬ OpensTooMany before t → BeginsLine ts u q → Reads q (u ∷ vs) (refused (refusal_number TooNested) p) → NestedAt before t after p
 
 -- The line that begins with this token in a method is refused with this number at the token's own place: at the last token
 -- of a text, which is also the place of the text's end.
@@ -154,7 +162,8 @@ pub record IsRefusedThere (before : List LineToken) (t : LineToken) (after : Lis
 -- Where this token is the first with which the tokens begin no file within the limits, they are refused so.
 pub data RefusedBy (before : List LineToken) (t : LineToken) (after : List LineToken) : ℕ → Place → Type 0 where
   unfit : {n : ℕ} → ¬ Begins (before ++ t ∷ []) → NumberAt before t n → RefusedBy before t after n t.place
-  too_nested : {p : Place} → Begins (before ++ t ∷ []) → ((n : ℕ) → ¬ IsRefusedThere before t after n) → NestedAt before t after p → RefusedBy before t after (refusal_number TooNested) p
+  too_nested : {p : Place} → Begins (before ++ t ∷ []) → ((n : ℕ) → ¬ IsRefusedThere before t after n) → NestedAt before t after p →
+      RefusedBy before t after (refusal_number TooNested) p
   -- of what stands at one place, one block too many is told last
   refused_there : {n : ℕ} → Begins (before ++ t ∷ []) → IsRefusedThere before t after n → RefusedBy before t after n t.place
 

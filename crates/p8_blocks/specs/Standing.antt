@@ -13,7 +13,8 @@ use Rattle.p8_lines.specs.declared.state.State.{State}
 use Rattle.p8_lines.specs.Tokens.{LineToken, word}
 use Rattle.p8_lines.specs.Lines.{Outcome, refused, Reads}
 use Rattle.p8_blocks.specs.Values.{begins_line}
-use Rattle.p8_blocks.specs.Reading.{Part, constants, variables, objects, assembly, method, Position, at, AreBlocks, Entry, from, barred, Enters, HasNoLoop, IsTooDeep, IsHead, is_block_word, is_begun, begin, Opens, Extends, Step, Goes, start, IsRefusedAt}
+use Rattle.p8_blocks.specs.Reading.{Part, constants, variables, objects, assembly, method, Position, at, AreBlocks, Entry, from, barred, Enters}
+use Rattle.p8_blocks.specs.Reading.{HasNoLoop, IsTooDeep, IsHead, is_block_word, is_begun, begin, Opens, Extends, Step, Goes, start, IsRefusedAt}
 use Rattle.p8_blocks.specs.declared.words.Head as head
 use Rattle.p8_blocks.specs.declared.words.Head.TheVariants as head_case
 use Rattle.p8_blocks.specs.declared.first.First.{First}

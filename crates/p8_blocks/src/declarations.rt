@@ -31,7 +31,8 @@ pub fn read_constants(
     requires within { at ≤ length tokens.now }
     requires begins { (state ≡ state_case.ConHead) ⊎ (state ≡ state_case.ConItem) }
     ensures within { IfOk result (λ r. (at < r.1) × (r.1 ≤ length tokens.now + 1)) }
-    ensures read { IfOk result (λ r. ReadsAs constants_of_row state (tokens_from bytes.now tokens.now at) (map constant_of r.0) (tokens_from bytes.now tokens.now r.1)) }
+    ensures read { IfOk result (λ r. ReadsAs constants_of_row state (tokens_from bytes.now tokens.now at) (map constant_of r.0)
+        (tokens_from bytes.now tokens.now r.1)) }
     ensures refused { IfErr result (IfRefused (λ fault. Reads state (tokens_from bytes.now tokens.now at) (refused fault.number fault.place))) }
 {
     let (pieces, end) = read_line(alloc, bytes, tokens, at, state)?;
@@ -50,7 +51,8 @@ pub fn read_variables(
     requires within { at ≤ length tokens.now }
     requires begins { (state ≡ state_case.VarHead) ⊎ (state ≡ state_case.VarLine) }
     ensures within { IfOk result (λ r. (at < r.1) × (r.1 ≤ length tokens.now + 1)) }
-    ensures read { IfOk result (λ r. ReadsAs variables_of_row state (tokens_from bytes.now tokens.now at) (map declared_of r.0) (tokens_from bytes.now tokens.now r.1)) }
+    ensures read { IfOk result (λ r. ReadsAs variables_of_row state (tokens_from bytes.now tokens.now at) (map declared_of r.0)
+        (tokens_from bytes.now tokens.now r.1)) }
     ensures refused { IfErr result (IfRefused (λ fault. Reads state (tokens_from bytes.now tokens.now at) (refused fault.number fault.place))) }
 {
     let (pieces, end) = read_line(alloc, bytes, tokens, at, state)?;
@@ -69,7 +71,8 @@ pub fn read_objects(
     requires within { at ≤ length tokens.now }
     requires begins { (state ≡ state_case.ObjHead) ⊎ (state ≡ state_case.ObjLine) }
     ensures within { IfOk result (λ r. (at < r.1) × (r.1 ≤ length tokens.now + 1)) }
-    ensures read { IfOk result (λ r. ReadsAs objects_of_row state (tokens_from bytes.now tokens.now at) (map child_of r.0) (tokens_from bytes.now tokens.now r.1)) }
+    ensures read { IfOk result (λ r. ReadsAs objects_of_row state (tokens_from bytes.now tokens.now at) (map child_of r.0)
+        (tokens_from bytes.now tokens.now r.1)) }
     ensures refused { IfErr result (IfRefused (λ fault. Reads state (tokens_from bytes.now tokens.now at) (refused fault.number fault.place))) }
 {
     let (pieces, end) = read_line(alloc, bytes, tokens, at, state)?;
@@ -88,7 +91,8 @@ pub fn read_method(
 ) -> Result<(Method, usize), Fail<Fault>>
     requires { at ≤ length tokens.now }
     ensures within { IfOk result (λ r. (at < r.1) × (r.1 ≤ length tokens.now + 1)) }
-    ensures read { IfOk result (λ r. ReadsAs (method_of_row public) state_case.MethodName (tokens_from bytes.now tokens.now at) (method_of r.0) (tokens_from bytes.now tokens.now r.1)) }
+    ensures read { IfOk result (λ r. ReadsAs (method_of_row public) state_case.MethodName (tokens_from bytes.now tokens.now at) (method_of r.0)
+        (tokens_from bytes.now tokens.now r.1)) }
     ensures refused { IfErr result (IfRefused (λ fault. Reads state_case.MethodName (tokens_from bytes.now tokens.now at) (refused fault.number fault.place))) }
 {
     let (pieces, end) = read_line(alloc, bytes, tokens, at, State::MethodName)?;
@@ -109,7 +113,8 @@ pub fn read_data(
     requires within { at ≤ length tokens.now }
     requires begins { (state ≡ state_case.DatHead) ⊎ (state ≡ state_case.DatLine) }
     ensures within { IfOk result (λ r. (at < r.1) × (r.1 ≤ length tokens.now + 1)) }
-    ensures read { IfOk result (λ r. ReadsAs line_of_row state (tokens_from bytes.now tokens.now at) (option_map line_of r.0) (tokens_from bytes.now tokens.now r.1)) }
+    ensures read { IfOk result (λ r. ReadsAs line_of_row state (tokens_from bytes.now tokens.now at) (option_map line_of r.0)
+        (tokens_from bytes.now tokens.now r.1)) }
     ensures refused { IfErr result (IfRefused (λ fault. Reads state (tokens_from bytes.now tokens.now at) (refused fault.number fault.place))) }
 {
     let (pieces, end) = read_line(alloc, bytes, tokens, at, state)?;

@@ -48,7 +48,8 @@ fn refusal_of_word(word: Word) -> Refusal
 fn chain_entry(blocks: &Blocks, first: First) -> Entry
     requires { IsTrue (goes_on_chain first.begun first.word) }
     ensures begins { IsTrue (begins_entry (entry_of result)) }
-    ensures enters { (ls : List lines.Line) (t : LineToken) → HasTaken ls blocks.now → word t ≡ first.word → t.place ≡ first.place → Enters ls first.begun t (entry_of result) }
+    ensures enters { (ls : List lines.Line) (t : LineToken) → HasTaken ls blocks.now → word t ≡ first.word → t.place ≡ first.place →
+        Enters ls first.begun t (entry_of result) }
 {
     match blocks.chain(first.place.column) {
         Chain::Begun => Entry::From(State::ChainLine),
@@ -61,7 +62,8 @@ fn chain_entry(blocks: &Blocks, first: First) -> Entry
 fn loop_end_entry(blocks: &Blocks, first: First) -> Entry
     requires { IsTrue (ends_loop first.begun first.word) }
     ensures begins { IsTrue (begins_entry (entry_of result)) }
-    ensures enters { (ls : List lines.Line) (t : LineToken) → HasTaken ls blocks.now → word t ≡ first.word → t.place ≡ first.place → Enters ls first.begun t (entry_of result) }
+    ensures enters { (ls : List lines.Line) (t : LineToken) → HasTaken ls blocks.now → word t ≡ first.word → t.place ≡ first.place →
+        Enters ls first.begun t (entry_of result) }
 {
     if blocks.is_plain_loop(first.place.column) {
         Entry::From(State::LoopEndLine)
@@ -76,7 +78,8 @@ fn room_entry(blocks: &Blocks, first: First) -> Entry
     requires no_chain { goes_on_chain first.begun first.word ≡ false }
     requires no_loop_end { ends_loop first.begun first.word ≡ false }
     ensures begins { IsTrue (begins_entry (entry_of result)) }
-    ensures enters { (ls : List lines.Line) (t : LineToken) → HasTaken ls blocks.now → word t ≡ first.word → t.place ≡ first.place → Enters ls first.begun t (entry_of result) }
+    ensures enters { (ls : List lines.Line) (t : LineToken) → HasTaken ls blocks.now → word t ≡ first.word → t.place ≡ first.place →
+        Enters ls first.begun t (entry_of result) }
 {
     match blocks.room(first.place.column) {
         Room::Statement => Entry::From(State::Statement),
@@ -88,7 +91,8 @@ fn room_entry(blocks: &Blocks, first: First) -> Entry
 /// Where a line that begins so is read from, after the lines that the blocks have taken.
 pub fn entry_at(blocks: &Blocks, first: First) -> Entry
     ensures begins { IsTrue (begins_entry (entry_of result)) }
-    ensures enters { (ls : List lines.Line) (t : LineToken) → HasTaken ls blocks.now → word t ≡ first.word → t.place ≡ first.place → Enters ls first.begun t (entry_of result) }
+    ensures enters { (ls : List lines.Line) (t : LineToken) → HasTaken ls blocks.now → word t ≡ first.word → t.place ≡ first.place →
+        Enters ls first.begun t (entry_of result) }
 {
     if goes_on_chain(first.begun, first.word) {
         chain_entry(blocks, first)
@@ -101,14 +105,16 @@ pub fn entry_at(blocks: &Blocks, first: First) -> Entry
 
 // Whether the line is `NEXT` or `QUIT`, and no `REPEAT` is open there.
 fn has_no_loop(blocks: &Blocks, first: First, state: State) -> bool
-    ensures { (ls : List lines.Line) (t : LineToken) → HasTaken ls blocks.now → word t ≡ first.word → t.place ≡ first.place → IsTrue result ↔ HasNoLoop ls state t }
+    ensures { (ls : List lines.Line) (t : LineToken) → HasTaken ls blocks.now → word t ≡ first.word → t.place ≡ first.place →
+        IsTrue result ↔ HasNoLoop ls state t }
 {
     leaves_loop(state, first.word) && !blocks.is_in_loop(first.place.column)
 }
 
 // Whether the line would open one block too many.
 fn is_too_deep(blocks: &Blocks, first: First, state: State) -> bool
-    ensures { (ls : List lines.Line) (t : LineToken) → HasTaken ls blocks.now → word t ≡ first.word → t.place ≡ first.place → IsTrue result ↔ IsTooDeep ls state t }
+    ensures { (ls : List lines.Line) (t : LineToken) → HasTaken ls blocks.now → word t ≡ first.word → t.place ≡ first.place →
+        IsTrue result ↔ IsTooDeep ls state t }
 {
     opens(state, first.word) && blocks.depth(first.place.column) >= GREATEST_DEPTH
 }
@@ -130,7 +136,8 @@ fn is_same(one: Place, other: Place) -> bool
 // The refusal of a line that is too deep and is refused itself: its own, if that stands at its first
 // token.
 fn first_refusal(fail: Fail<Fault>, first: First) -> Fail<Fault>
-    ensures { (q : line_state.State) (ts : List LineToken) → IfRefused (λ f. Reads q ts (refused f.number f.place)) fail → IfRefused (λ f. TellsTooDeep q ts first.place first.begin f.number f.place) result }
+    ensures { (q : line_state.State) (ts : List LineToken) → IfRefused (λ f. Reads q ts (refused f.number f.place)) fail →
+        IfRefused (λ f. TellsTooDeep q ts first.place first.begin f.number f.place) result }
 {
     match fail {
         Fail::Refused(fault) => {
@@ -179,8 +186,12 @@ fn within_depth(
     requires within { at < length tokens.now }
     requires begins { IsTrue (begins_line state) }
     ensures same { IfOk result (λ q. q ≡ state) }
-    ensures read { (ls : List lines.Line) (t : LineToken) → HasTaken ls blocks.now → word t ≡ first.word → t.place ≡ first.place → Enters ls first.begun t (from state) → IfOk result (λ q. MayRead ls first.begun t q) }
-    ensures refused { (b : Option tree_place.Place) (m : MethodTree) (ls : List lines.Line) (ps : List Part) → Inner (tokens_from bytes.now tokens.now at) (tokens_from bytes.now tokens.now (at + 1)) b first → HasTaken ls blocks.now → ((t : LineToken) → word t ≡ first.word → t.place ≡ first.place → Enters ls first.begun t (from state)) → IfErr result (IfRefused (λ f. Fails (position (method m ls ∷ ps) b) (tokens_from bytes.now tokens.now at) f.number f.place)) }
+    ensures read { (ls : List lines.Line) (t : LineToken) → HasTaken ls blocks.now → word t ≡ first.word → t.place ≡ first.place →
+        Enters ls first.begun t (from state) → IfOk result (λ q. MayRead ls first.begun t q) }
+    ensures refused { (b : Option tree_place.Place) (m : MethodTree) (ls : List lines.Line) (ps : List Part) →
+        Inner (tokens_from bytes.now tokens.now at) (tokens_from bytes.now tokens.now (at + 1)) b first → HasTaken ls blocks.now →
+        ((t : LineToken) → word t ≡ first.word → t.place ≡ first.place → Enters ls first.begun t (from state)) →
+        IfErr result (IfRefused (λ f. Fails (position (method m ls ∷ ps) b) (tokens_from bytes.now tokens.now at) f.number f.place)) }
 {
     if has_no_loop(blocks, first, state) {
         Err(Fail::Refused(Refusal::LoopWord.at(first.place)))
@@ -203,8 +214,11 @@ pub fn state_of_line(
 ) -> Result<State, Fail<Fault>>
     requires { at < length tokens.now }
     ensures begins { IfOk result (λ q. IsTrue (begins_line q)) }
-    ensures read { (ls : List lines.Line) (t : LineToken) → HasTaken ls blocks.now → word t ≡ first.word → t.place ≡ first.place → IfOk result (λ q. MayRead ls first.begun t q) }
-    ensures refused { (b : Option tree_place.Place) (m : MethodTree) (ls : List lines.Line) (ps : List Part) → Inner (tokens_from bytes.now tokens.now at) (tokens_from bytes.now tokens.now (at + 1)) b first → HasTaken ls blocks.now → IfErr result (IfRefused (λ f. Fails (position (method m ls ∷ ps) b) (tokens_from bytes.now tokens.now at) f.number f.place)) }
+    ensures read { (ls : List lines.Line) (t : LineToken) → HasTaken ls blocks.now → word t ≡ first.word → t.place ≡ first.place →
+        IfOk result (λ q. MayRead ls first.begun t q) }
+    ensures refused { (b : Option tree_place.Place) (m : MethodTree) (ls : List lines.Line) (ps : List Part) →
+        Inner (tokens_from bytes.now tokens.now at) (tokens_from bytes.now tokens.now (at + 1)) b first → HasTaken ls blocks.now →
+        IfErr result (IfRefused (λ f. Fails (position (method m ls ∷ ps) b) (tokens_from bytes.now tokens.now at) f.number f.place)) }
 {
     match entry_at(blocks, first) {
         Entry::From(state) => within_depth(alloc, bytes, tokens, at, first, blocks, state),

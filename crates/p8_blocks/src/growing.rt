@@ -101,8 +101,10 @@ impl Growing {
     ) -> Result<usize, Fail<Fault>>
         requires { at < length tokens.now }
         ensures within { IfOk result (λ end. (at < end) × (end ≤ length tokens.now + 1)) }
-        ensures read { (x : Position) → StandsFor x self.old → IfOk result (λ end. Continues x (tokens_from bytes.now tokens.now at) self.new (tokens_from bytes.now tokens.now end)) }
-        ensures refused { (x : Position) → StandsFor x self.old → IfErr result (IfRefused (λ f. Fails x (tokens_from bytes.now tokens.now at) f.number f.place)) }
+        ensures read { (x : Position) → StandsFor x self.old →
+            IfOk result (λ end. Continues x (tokens_from bytes.now tokens.now at) self.new (tokens_from bytes.now tokens.now end)) }
+        ensures refused { (x : Position) → StandsFor x self.old →
+            IfErr result (IfRefused (λ f. Fails x (tokens_from bytes.now tokens.now at) f.number f.place)) }
     {
         let first = First::at(bytes, tokens, at, self.begun);
         if first.is_line_end() {
@@ -126,8 +128,10 @@ impl Growing {
         requires starts { Starts (tokens_from bytes.now tokens.now at) (tokens_from bytes.now tokens.now (at + 1)) self.old.begun first }
         requires not_end { first.word ≢ word_case.LineEnd }
         ensures within { IfOk result (λ end. (at < end) × (end ≤ length tokens.now + 1)) }
-        ensures read { (x : Position) → StandsFor x self.old → IfOk result (λ end. Continues x (tokens_from bytes.now tokens.now at) self.new (tokens_from bytes.now tokens.now end)) }
-        ensures refused { (x : Position) → StandsFor x self.old → IfErr result (IfRefused (λ f. Fails x (tokens_from bytes.now tokens.now at) f.number f.place)) }
+        ensures read { (x : Position) → StandsFor x self.old →
+            IfOk result (λ end. Continues x (tokens_from bytes.now tokens.now at) self.new (tokens_from bytes.now tokens.now end)) }
+        ensures refused { (x : Position) → StandsFor x self.old →
+            IfErr result (IfRefused (λ f. Fails x (tokens_from bytes.now tokens.now at) f.number f.place)) }
     {
         match first.head() {
             Some(head) => self.head_line(alloc, bytes, tokens, at, first, head),
@@ -150,8 +154,10 @@ impl Growing {
         requires head { first.word ≡ word_of_head head }
         requires column { first.place.column ≡ 1 }
         ensures within { IfOk result (λ end. (at < end) × (end ≤ length tokens.now + 1)) }
-        ensures read { (x : Position) → StandsFor x self.old → IfOk result (λ end. Continues x (tokens_from bytes.now tokens.now at) self.new (tokens_from bytes.now tokens.now end)) }
-        ensures refused { (x : Position) → StandsFor x self.old → IfErr result (IfRefused (λ f. Fails x (tokens_from bytes.now tokens.now at) f.number f.place)) }
+        ensures read { (x : Position) → StandsFor x self.old →
+            IfOk result (λ end. Continues x (tokens_from bytes.now tokens.now at) self.new (tokens_from bytes.now tokens.now end)) }
+        ensures refused { (x : Position) → StandsFor x self.old →
+            IfErr result (IfRefused (λ f. Fails x (tokens_from bytes.now tokens.now at) f.number f.place)) }
     {
         let (block, end) = read_head(alloc, bytes, tokens, behind(tokens, at), head)?;
         self.begin(alloc, block)?;
@@ -186,8 +192,10 @@ impl Growing {
         requires not_end { first.word ≢ word_case.LineEnd }
         requires no_head { ¬ IsHeadAt first.word first.place }
         ensures within { IfOk result (λ end. (at < end) × (end ≤ length tokens.now + 1)) }
-        ensures read { (x : Position) → StandsFor x self.old → IfOk result (λ end. Continues x (tokens_from bytes.now tokens.now at) self.new (tokens_from bytes.now tokens.now end)) }
-        ensures refused { (x : Position) → StandsFor x self.old → IfErr result (IfRefused (λ f. Fails x (tokens_from bytes.now tokens.now at) f.number f.place)) }
+        ensures read { (x : Position) → StandsFor x self.old →
+            IfOk result (λ end. Continues x (tokens_from bytes.now tokens.now at) self.new (tokens_from bytes.now tokens.now end)) }
+        ensures refused { (x : Position) → StandsFor x self.old →
+            IfErr result (IfRefused (λ f. Fails x (tokens_from bytes.now tokens.now at) f.number f.place)) }
     {
         match self.current.take() {
             None => {
@@ -204,7 +212,8 @@ impl Growing {
     // Puts the block at hand back, with one more line; gives the number of the token after that.
     fn extend(&mut self, line: Extended) -> usize
         ensures end { result ≡ line.end }
-        ensures stands { (p : Part) (ps : List Part) → IsOpen p line.block → AreBlocks ps (map block_of self.old.done) → StandsFor (position (p ∷ ps) line.begun) self.new }
+        ensures stands { (p : Part) (ps : List Part) → IsOpen p line.block → AreBlocks ps (map block_of self.old.done) →
+            StandsFor (position (p ∷ ps) line.begun) self.new }
     {
         self.current = Some(line.block);
         self.begun = line.begun;

@@ -108,7 +108,8 @@ pub fn files_are_proper()
 
 /// The tokens of a file of bytes are proper words.
 pub fn tokens_are_proper()
-    ensures { (bytes : List ℕ) (tokens : List lexer_token.Token) → EachIndex bytes (λ i. slice_index bytes i < 256) → AreTokens bytes tokens → AreProper (terms (all_tokens bytes tokens)) }
+    ensures { (bytes : List ℕ) (tokens : List lexer_token.Token) → EachIndex bytes (λ i. slice_index bytes i < 256) → AreTokens bytes tokens →
+        AreProper (terms (all_tokens bytes tokens)) }
 {
     p8_expr::tokens_are_lexemes();
     p8_expr::lexemes_are_proper();

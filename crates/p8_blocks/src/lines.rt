@@ -90,7 +90,8 @@ pub fn read_head(
 ) -> Result<(Open, usize), Fail<Fault>>
     requires { at ≤ length tokens.now }
     ensures within { IfOk result (λ r. (at < r.1) × (r.1 ≤ length tokens.now + 1)) }
-    ensures read { (t : LineToken) → word t ≡ word_of_head head → IfOk result (λ r. Begins t (tokens_from bytes.now tokens.now at) r.0 (tokens_from bytes.now tokens.now r.1)) }
+    ensures read { (t : LineToken) → word t ≡ word_of_head head →
+        IfOk result (λ r. Begins t (tokens_from bytes.now tokens.now at) r.0 (tokens_from bytes.now tokens.now r.1)) }
     ensures refused { IfErr result (IfRefused (λ f. Reads (head_state (word_of_head head)) (tokens_from bytes.now tokens.now at) (refused f.number f.place))) }
 {
     match head {
@@ -147,7 +148,8 @@ fn more_constants(
 ) -> Result<Extended, Fail<Fault>>
     requires { at ≤ length tokens.now }
     ensures within { IfOk result (λ r. (at < r.end) × (r.end ≤ length tokens.now + 1)) }
-    ensures read { (ps : list Part) → IfOk result (λ r. Added (constants (map constant_of items) ∷ ps) ps (tokens_from bytes.now tokens.now at) r (tokens_from bytes.now tokens.now r.end)) }
+    ensures read { (ps : list Part) → IfOk result (λ r. Added (constants (map constant_of items) ∷ ps) ps (tokens_from bytes.now tokens.now at) r
+        (tokens_from bytes.now tokens.now r.end)) }
     ensures refused { IfErr result (IfRefused (λ f. Reads state_case.ConItem (tokens_from bytes.now tokens.now at) (refused f.number f.place))) }
 {
     let (more, end) = read_constants(alloc, bytes, tokens, at, State::ConItem)?;
@@ -164,7 +166,8 @@ fn more_variables(
 ) -> Result<Extended, Fail<Fault>>
     requires { at ≤ length tokens.now }
     ensures within { IfOk result (λ r. (at < r.end) × (r.end ≤ length tokens.now + 1)) }
-    ensures read { (ps : list Part) → IfOk result (λ r. Added (variables (map declared_of items) ∷ ps) ps (tokens_from bytes.now tokens.now at) r (tokens_from bytes.now tokens.now r.end)) }
+    ensures read { (ps : list Part) → IfOk result (λ r. Added (variables (map declared_of items) ∷ ps) ps (tokens_from bytes.now tokens.now at) r
+        (tokens_from bytes.now tokens.now r.end)) }
     ensures refused { IfErr result (IfRefused (λ f. Reads state_case.VarLine (tokens_from bytes.now tokens.now at) (refused f.number f.place))) }
 {
     let (more, end) = read_variables(alloc, bytes, tokens, at, State::VarLine)?;
@@ -181,7 +184,8 @@ fn more_objects(
 ) -> Result<Extended, Fail<Fault>>
     requires { at ≤ length tokens.now }
     ensures within { IfOk result (λ r. (at < r.end) × (r.end ≤ length tokens.now + 1)) }
-    ensures read { (ps : list Part) → IfOk result (λ r. Added (objects (map child_of items) ∷ ps) ps (tokens_from bytes.now tokens.now at) r (tokens_from bytes.now tokens.now r.end)) }
+    ensures read { (ps : list Part) → IfOk result (λ r. Added (objects (map child_of items) ∷ ps) ps (tokens_from bytes.now tokens.now at) r
+        (tokens_from bytes.now tokens.now r.end)) }
     ensures refused { IfErr result (IfRefused (λ f. Reads state_case.ObjLine (tokens_from bytes.now tokens.now at) (refused f.number f.place))) }
 {
     let (more, end) = read_objects(alloc, bytes, tokens, at, State::ObjLine)?;
@@ -198,7 +202,8 @@ fn more_data(
 ) -> Result<Extended, Fail<Fault>>
     requires { at ≤ length tokens.now }
     ensures within { IfOk result (λ r. (at < r.end) × (r.end ≤ length tokens.now + 1)) }
-    ensures read { (ps : list Part) → IfOk result (λ r. Added (assembly (map line_of lines) ∷ ps) ps (tokens_from bytes.now tokens.now at) r (tokens_from bytes.now tokens.now r.end)) }
+    ensures read { (ps : list Part) → IfOk result (λ r. Added (assembly (map line_of lines) ∷ ps) ps (tokens_from bytes.now tokens.now at) r
+        (tokens_from bytes.now tokens.now r.end)) }
     ensures refused { IfErr result (IfRefused (λ f. Reads state_case.DatLine (tokens_from bytes.now tokens.now at) (refused f.number f.place))) }
 {
     let (line, end) = read_data(alloc, bytes, tokens, at, State::DatLine)?;
@@ -240,8 +245,13 @@ fn method_line(
     requires within { at < length tokens.now }
     requires token { IsToken first }
     ensures within { IfOk result (λ r. (at < r.end) × (r.end ≤ length tokens.now + 1)) }
-    ensures read { (b : Option tree_place.Place) (ls : list lines.Line) (ps : list Part) → Inner (tokens_from bytes.now tokens.now at) (tokens_from bytes.now tokens.now (at + 1)) b first → HasTaken ls blocks → IfOk result (λ r. Grown (method_part (method_of method) ls ∷ ps) ps b (tokens_from bytes.now tokens.now at) r (tokens_from bytes.now tokens.now r.end)) }
-    ensures refused { (b : Option tree_place.Place) (ls : list lines.Line) (ps : list Part) → Inner (tokens_from bytes.now tokens.now at) (tokens_from bytes.now tokens.now (at + 1)) b first → HasTaken ls blocks → IfErr result (IfRefused (λ f. Fails (position (method_part (method_of method) ls ∷ ps) b) (tokens_from bytes.now tokens.now at) f.number f.place)) }
+    ensures read { (b : Option tree_place.Place) (ls : list lines.Line) (ps : list Part) →
+        Inner (tokens_from bytes.now tokens.now at) (tokens_from bytes.now tokens.now (at + 1)) b first → HasTaken ls blocks →
+        IfOk result (λ r. Grown (method_part (method_of method) ls ∷ ps) ps b (tokens_from bytes.now tokens.now at) r
+        (tokens_from bytes.now tokens.now r.end)) }
+    ensures refused { (b : Option tree_place.Place) (ls : list lines.Line) (ps : list Part) →
+        Inner (tokens_from bytes.now tokens.now at) (tokens_from bytes.now tokens.now (at + 1)) b first → HasTaken ls blocks →
+        IfErr result (IfRefused (λ f. Fails (position (method_part (method_of method) ls ∷ ps) b) (tokens_from bytes.now tokens.now at) f.number f.place)) }
 {
     let state = state_of_line(alloc, bytes, tokens, at, first, &blocks)?;
     let (kind, end) = read_statement(alloc, bytes, tokens, at, state)?;
@@ -270,8 +280,12 @@ impl Open {
         requires within { at < length tokens.now }
         requires token { IsToken first }
         ensures within { IfOk result (λ r. (at < r.end) × (r.end ≤ length tokens.now + 1)) }
-        ensures read { (b : Option tree_place.Place) (p : Part) (ps : list Part) → Inner (tokens_from bytes.now tokens.now at) (tokens_from bytes.now tokens.now (at + 1)) b first → IsOpen p self → IfOk result (λ r. Grown (p ∷ ps) ps b (tokens_from bytes.now tokens.now at) r (tokens_from bytes.now tokens.now r.end)) }
-        ensures refused { (b : Option tree_place.Place) (p : Part) (ps : list Part) → Inner (tokens_from bytes.now tokens.now at) (tokens_from bytes.now tokens.now (at + 1)) b first → IsOpen p self → IfErr result (IfRefused (λ f. Fails (position (p ∷ ps) b) (tokens_from bytes.now tokens.now at) f.number f.place)) }
+        ensures read { (b : Option tree_place.Place) (p : Part) (ps : list Part) →
+            Inner (tokens_from bytes.now tokens.now at) (tokens_from bytes.now tokens.now (at + 1)) b first → IsOpen p self →
+            IfOk result (λ r. Grown (p ∷ ps) ps b (tokens_from bytes.now tokens.now at) r (tokens_from bytes.now tokens.now r.end)) }
+        ensures refused { (b : Option tree_place.Place) (p : Part) (ps : list Part) →
+            Inner (tokens_from bytes.now tokens.now at) (tokens_from bytes.now tokens.now (at + 1)) b first → IsOpen p self →
+            IfErr result (IfRefused (λ f. Fails (position (p ∷ ps) b) (tokens_from bytes.now tokens.now at) f.number f.place)) }
     {
         match self {
             Open::Constants(items) => more_constants(alloc, bytes, tokens, at, items),

@@ -8,10 +8,10 @@ use Rattle.p8_tree.specs.declared.faults.Fault.{Fault}
 use Rattle.p8_tree.specs.Faults.{fault}
 use Rattle.p8_tree.specs.declared.refusal.Refusal.TheVariants.{NotConstant, ZeroDivisor, NotCharacter}
 use Rattle.p8_words.specs.Operators.{unary_result, binary_result, divides}
-use Rattle.p8_kinds.specs.declared.meanings.Meaning.{Meaning}
-use Rattle.p8_kinds.specs.declared.meanings.Meaning.TheVariants as meaning_case
-use Rattle.p8_kinds.specs.Meanings.{Setting, meaning_of, value_of_meaning, given}
-use Rattle.p8_kinds.specs.Values.{value, value_of_form, value_of_variable, address_of, fault_of_name, unless, where_so, fault_of_variable, fault_of_constant, fault_of_call, is_zero, fault_between, is_constant_word, own_fault, FaultIn, FaultInside, FaultInVariable, FaultInIndex, FaultInBits, FaultInItem, FaultInTrees, FaultInItems, string_of, is_character, fault_of_character, FaultOfItem, FaultInText}
+use Rattle.p8_fold.specs.declared.meanings.Meaning.{Meaning}
+use Rattle.p8_fold.specs.declared.meanings.Meaning.TheVariants as meaning_case
+use Rattle.p8_fold.specs.Meanings.{Setting, meaning_of, value_of_meaning, given}
+use Rattle.p8_fold.specs.Values.{value, value_of_form, value_of_variable, address_of, fault_of_name, unless, where_so, fault_of_variable, fault_of_constant, fault_of_call, is_zero, fault_between, is_constant_word, own_fault, FaultIn, FaultInside, FaultInVariable, FaultInIndex, FaultInBits, FaultInItem, FaultInTrees, FaultInItems, string_of, is_character, fault_of_character, FaultOfItem, FaultInText}
 
 -- another refusal than 17
 abbrev pub IsOther : Fault → Type 0

@@ -8,12 +8,12 @@ use Rattle.p8_words.specs.declared.failure.Fail.{Fail}
 use Rattle.p8_words.specs.declared.failure.Fail.TheVariants as fail_case
 use Rattle.p8_tree.specs.declared.faults.Fault.{Fault}
 use Rattle.p8_tree.specs.Faults.{IsFirstFault, IfRefused}
-use Rattle.p8_kinds.specs.ConstantEntries.{setting_of as setting_in}
+use Rattle.p8_fold.specs.ConstantEntries.{setting_of as setting_in}
 use Rattle.p8_kinds.specs.declared.children.Children.{Children}
 use Rattle.p8_kinds.specs.declared.kinds.Kinds.{Kinds}
 use Rattle.p8_kinds.specs.declared.named.Named.{Named}
 use Rattle.p8_kinds.specs.FileSettings.{file_setting}
-use Rattle.p8_kinds.specs.Meanings.{Setting}
+use Rattle.p8_fold.specs.Meanings.{Setting}
 use Rattle.p8_kinds.specs.Kinds.{own}
 use Rattle.p8_kinds.specs.Publics.{public_of}
 use Rattle.p8_constants.specs.FileItems.{items}

@@ -15,7 +15,7 @@ use Rattle.p8_tree.specs.declared.refusal.Refusal.TheVariants.{WrongArity}
 use Rattle.p8_constants.specs.FileItems.{Item, constant, variable, object, method, line, items}
 use Rattle.p8_constants.specs.Names.{label_name}
 use Rattle.p8_constants.specs.Rules.{count_in}
-use Rattle.p8_kinds.specs.Meanings.{Setting}
+use Rattle.p8_fold.specs.Meanings.{Setting}
 use Rattle.p8_kinds.specs.declared.children.Child.{Child}
 use Rattle.p8_kinds.specs.declared.children.ChildMethod.{ChildMethod}
 use Rattle.p8_kinds.specs.declared.children.Children.{Children}

@@ -8,8 +8,8 @@ use Rattle.p8_tree.specs.Faults.{is_same_place}
 use Rattle.p8_tree.specs.Expressions.{Form}
 use Rattle.p8_tree.specs.Sources.{MethodTree, Source}
 use Rattle.p8_tree.specs.Projects.{NamedSource}
-use Rattle.p8_kinds.specs.ConstantEntries.{setting_of as setting_in}
-use Rattle.p8_kinds.specs.Meanings.{Setting}
+use Rattle.p8_fold.specs.ConstantEntries.{setting_of as setting_in}
+use Rattle.p8_fold.specs.Meanings.{Setting}
 use Rattle.p8_kinds.specs.declared.children.Children.{Children}
 use Rattle.p8_constants.specs.FileItems.{Item, items}
 use Rattle.p8_names.specs.Kinds.{numbered, objects}

@@ -16,7 +16,7 @@ use Rattle.p8_kinds.specs.declared.name_kinds.NameKind.TheVariants as kind
 use Rattle.p8_kinds.specs.declared.uses.Use.TheVariants as used
 use Rattle.p8_kinds.specs.Uses.{argument_count}
 use Rattle.p8_kinds.specs.Environments.{Environment, kind_in}
-use Rattle.p8_kinds.specs.Values.{where_so}
+use Rattle.p8_fold.specs.Values.{where_so}
 use Rattle.p8_kinds.specs.Misuses.{misuse, misuse_behind, misuse_of_constant, misuse_of_variable, misuse_of_value, misuse_of_call, misuse_of_arguments, own_misuse, in_method, BrokenIn, BrokenInside, BrokenInVariable, BrokenInIndex, BrokenInBits, BrokenInItem, BrokenInTrees, BrokenInItems, name_alone, MisuseDone, MisuseInOption, MisuseInCourse, MisuseInStatements, MisuseInStatement, MisuseInAction, MisuseInArm, MisuseInOtherwise, MisuseInArms}
 use Rattle.p8_build.specs.declared.sizes.Size.{Size}
 use Rattle.p8_build.specs.declared.sizes.Size.TheVariants as size_case

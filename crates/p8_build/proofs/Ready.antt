@@ -7,7 +7,7 @@ use Rattle.p8_tree.specs.Names.{result_word}
 use Rattle.p8_tree.specs.Proper.{IsProperFile}
 use Rattle.p8_tree.specs.Sources.{Declared, MethodTree, Source}
 use Rattle.p8_tree.specs.declared.faults.Fault.{Fault}
-use Rattle.p8_kinds.specs.Meanings.{Setting}
+use Rattle.p8_fold.specs.Meanings.{Setting}
 use Rattle.p8_constants.specs.FileItems.{Item, constant, variable, object, method, line, items}
 use Rattle.p8_constants.specs.Names.{name_of}
 use Rattle.p8_kinds.specs.declared.children.Child.{Child}

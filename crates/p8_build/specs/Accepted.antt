@@ -5,7 +5,7 @@ use Rattle.p8_tree.specs.Projects.{NamedSource}
 use Rattle.p8_tree.specs.Views.{source_of, method_of}
 use Rattle.p8_constants.specs.FileItems.{items}
 use Rattle.p8_constants.specs.Standing.{items_of}
-use Rattle.p8_kinds.specs.ConstantEntries.{setting_of}
+use Rattle.p8_fold.specs.ConstantEntries.{setting_of}
 use Rattle.p8_kinds.specs.FileSettings.{file_setting}
 use Rattle.p8_kinds.specs.Kinds.{own}
 use Rattle.p8_kinds.specs.Publics.{public_of}
@@ -65,5 +65,6 @@ compiled_files a = map compiled_file a.files
 pub record IsAccepted (files : List NamedSource) (a : Accepted) : Type 0 where
   pub seen : AreChildren files a.children
   pub each : AreCompiled files a.children (compiled_files a)
-  pub tables : (i : ℕ) (file : NamedSource) (seen : Children) (f : AcceptedFile) → IsFile files a.children i file seen → slice_get a.files i ≡ Some f → HasTables file.tree seen f
+  pub tables : (i : ℕ) (file : NamedSource) (seen : Children) (f : AcceptedFile) → IsFile files a.children i file seen →
+      slice_get a.files i ≡ Some f → HasTables file.tree seen f
   pub finished : IsFinished (clock_by (compiled_files a)) (objects_of files a.children (compiled_files a)) a.built

@@ -32,7 +32,8 @@ pub record IsFile (files : List NamedSource) (children : List Children) (i : ℕ
 -- each file is compiled; the first one is the top file
 pub record AreCompiled (files : List NamedSource) (children : List Children) (xs : List CompiledFile) : Type 0 where
   pub count : length xs ≡ length files
-  pub each : (i : ℕ) (file : NamedSource) (seen : Children) (x : CompiledFile) → IsFile files children i file seen → slice_get xs i ≡ Some x → IsCompiled file.tree seen (i == 0) x
+  pub each : (i : ℕ) (file : NamedSource) (seen : Children) (x : CompiledFile) → IsFile files children i file seen → slice_get xs i ≡ Some x →
+      IsCompiled file.tree seen (i == 0) x
 
 -- the objects of all files, in their order
 abbrev pub objects_from : (all files : List NamedSource) → List Children → List CompiledFile → List ObjectPart
@@ -53,7 +54,8 @@ constant_named kinds name = constant_value (own kinds 0 name)
 
 abbrev pub clock_by : List CompiledFile → Option Clock
 clock_by [] = None
-clock_by (top ∷ xs) = clock_of (constant_named top.kinds (codes "_CLKMODE")) (constant_named top.kinds (codes "_CLKFREQ")) (constant_named top.kinds (codes "_XINFREQ"))
+clock_by (top ∷ xs) = clock_of (constant_named top.kinds (codes "_CLKMODE")) (constant_named top.kinds (codes "_CLKFREQ"))
+    (constant_named top.kinds (codes "_XINFREQ"))
 
 -- ---- refusals, by the phases names, data, code and image
 
@@ -70,7 +72,8 @@ pub data IsRefusal (files : List NamedSource) (children : List Children) : Phase
       → IsNameFault file.tree seen (i == 0) f → IsRefusal files children (record { phase = 0; file = i; fault = f })
   of_data : (i : ℕ) (file : NamedSource) (seen : Children) (x : CompiledFile) (f : Fault) → IsFile files children i file seen
       → IsNamed file.tree seen (i == 0) x.kinds
-      → IsDatFault (setting_of seen x) (data_start (setting_of seen x) file.tree) file.tree f → IsRefusal files children (record { phase = 1; file = i; fault = f })
+      → IsDatFault (setting_of seen x) (data_start (setting_of seen x) file.tree) file.tree f →
+      IsRefusal files children (record { phase = 1; file = i; fault = f })
   of_code : (i : ℕ) (file : NamedSource) (seen : Children) (x : CompiledFile) (f : Fault) → IsFile files children i file seen
       → IsNamed file.tree seen (i == 0) x.kinds → IsData file.tree seen x
       → IsCodeFault file.tree seen x f → IsRefusal files children (record { phase = 2; file = i; fault = f })

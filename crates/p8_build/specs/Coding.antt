@@ -22,8 +22,10 @@ pub record AreReady (names : ℕ → MethodTree → Names) (ms : List MethodTree
 
 -- one method more: its code, or its first fault
 pub data IsOneMore (names : Names) (m : MethodTree) (old new : Coded) : Type 0 where
-  coded : (code : MethodCode) → IsCodeOf names m code → ((f : Fault) → ¬ IsMethodFault names m f) → new.codes ≡ old.codes ++ code ∷ [] → new.fault ≡ old.fault → IsOneMore names m old new
-  refused : (f : Fault) → IsFirstFault (IsMethodFault names m) f → new.codes ≡ old.codes → new.fault ≡ first_of_two old.fault (Some f) → IsOneMore names m old new
+  coded : (code : MethodCode) → IsCodeOf names m code → ((f : Fault) → ¬ IsMethodFault names m f) → new.codes ≡ old.codes ++ code ∷ [] →
+      new.fault ≡ old.fault → IsOneMore names m old new
+  refused : (f : Fault) → IsFirstFault (IsMethodFault names m) f → new.codes ≡ old.codes → new.fault ≡ first_of_two old.fault (Some f) →
+      IsOneMore names m old new
 
 -- a fault of one of some methods
 pub data IsFaultOfOne (names : ℕ → MethodTree → Names) (ms : List MethodTree) (f : Fault) : Type 0 where
@@ -41,7 +43,8 @@ pub record IsCoded (names : ℕ → MethodTree → Names) (ms : List MethodTree)
 
 -- 27 at the first method too many, beside so many instances
 pub data IsOneTooMany (instances : ℕ) (ms : List MethodTree) (f : Fault) : Type 0 where
-  too_many : (k : ℕ) (m : MethodTree) → slice_get ms k ≡ Some m → are_too_many instances (k + 1) ≡ true → are_too_many instances k ≡ false → fault TooManyMethods m.place ≡ f → IsOneTooMany instances ms f
+  too_many : (k : ℕ) (m : MethodTree) → slice_get ms k ≡ Some m → are_too_many instances (k + 1) ≡ true → are_too_many instances k ≡ false →
+      fault TooManyMethods m.place ≡ f → IsOneTooMany instances ms f
 
 -- a fault of the code of a file with so many instances
 abbrev pub IsFaultOfCode : (ℕ → MethodTree → Names) → ℕ → List MethodTree → Fault → Type 0

@@ -5,7 +5,7 @@ use Rattle.p8_tree.specs.Projects.{NamedSource}
 use Rattle.p8_tree.specs.declared.faults.Fault.{Fault}
 use Rattle.p8_tree.specs.Faults.{fault}
 use Rattle.p8_tree.specs.declared.refusal.Refusal.TheVariants.{TooManyMethods}
-use Rattle.p8_kinds.specs.Meanings.{Setting}
+use Rattle.p8_fold.specs.Meanings.{Setting}
 use Rattle.p8_constants.specs.FileItems.{items}
 use Rattle.p8_kinds.specs.declared.children.Children.{Children}
 use Rattle.p8_kinds.specs.declared.kinds.Kinds.{Kinds}
@@ -68,13 +68,16 @@ pub record IsFirstTooMany (s : Setting) (source : Source) (k : ℕ) : Type 0 whe
   pub first : are_too_many (instances s (objects (items source))) k ≡ false
 
 pub data IsCodeFault (source : Source) (children : Children) (x : CompiledFile) (f : Fault) : Type 0 where
-  of_method : (k : ℕ) (m : MethodTree) → slice_get (numbered (items source)) k ≡ Some m → IsMethodFault (method_names children x k m) m f → IsCodeFault source children x f
-  too_many : (k : ℕ) (m : MethodTree) → slice_get (numbered (items source)) k ≡ Some m → IsFirstTooMany (setting_of children x) source k → fault TooManyMethods m.place ≡ f → IsCodeFault source children x f
+  of_method : (k : ℕ) (m : MethodTree) → slice_get (numbered (items source)) k ≡ Some m → IsMethodFault (method_names children x k m) m f →
+      IsCodeFault source children x f
+  too_many : (k : ℕ) (m : MethodTree) → slice_get (numbered (items source)) k ≡ Some m → IsFirstTooMany (setting_of children x) source k →
+      fault TooManyMethods m.place ≡ f → IsCodeFault source children x f
 
 pub record IsCode (source : Source) (children : Children) (x : CompiledFile) : Type 0 where
   pub clean : (f : Fault) → ¬ IsCodeFault source children x f
   pub count : length x.codes ≡ length (numbered (items source))
-  pub each : (k : ℕ) (m : MethodTree) (code : MethodCode) → slice_get (numbered (items source)) k ≡ Some m → slice_get x.codes k ≡ Some code → IsCodeOf (method_names children x k m) m code
+  pub each : (k : ℕ) (m : MethodTree) (code : MethodCode) → slice_get (numbered (items source)) k ≡ Some m → slice_get x.codes k ≡ Some code →
+      IsCodeOf (method_names children x k m) m code
 
 -- ---- all of it
 

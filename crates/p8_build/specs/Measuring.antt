@@ -26,4 +26,5 @@ of_method_size (Some size) = Some (size_case.Method size)
 -- the size that a fault of the code of some methods tells
 pub data IfSizeAt (names : ℕ → MethodTree → Names) (ms : List MethodTree) (f : Fault) (size : Option Size) : Type 0 where
   elsewhere : ¬ (f.number ≡ refusal_number FrameTooLarge) → size ≡ None → IfSizeAt names ms f size
-  looked_for : (method : Option MethodSize) → f.number ≡ refusal_number FrameTooLarge → IsFirstSize names ms f.place method → size ≡ of_method_size method → IfSizeAt names ms f size
+  looked_for : (method : Option MethodSize) → f.number ≡ refusal_number FrameTooLarge → IsFirstSize names ms f.place method →
+      size ≡ of_method_size method → IfSizeAt names ms f size

@@ -11,9 +11,9 @@ use Rattle.p8_tree.specs.declared.refusal.Refusal.TheVariants.{WrongArity, Image
 use Rattle.p8_tree.specs.Refusals.{refusal_number}
 use Rattle.p8_kinds.specs.declared.children.Children.{Children}
 use Rattle.p8_kinds.specs.declared.kinds.Kinds.{Kinds}
-use Rattle.p8_kinds.specs.ConstantEntries.{setting_of as setting_in}
+use Rattle.p8_fold.specs.ConstantEntries.{setting_of as setting_in}
 use Rattle.p8_kinds.specs.FileSettings.{file_setting}
-use Rattle.p8_kinds.specs.Meanings.{Setting}
+use Rattle.p8_fold.specs.Meanings.{Setting}
 use Rattle.p8_constants.specs.FileItems.{Item, items}
 use Rattle.p8_constants.specs.Standing.{items_of}
 use Rattle.p8_names.specs.Kinds.{numbered, objects}
@@ -60,10 +60,13 @@ names_size source children f = if f.number == refusal_number WrongArity then arg
 
 -- the first refusal of a file, phase by phase, and its size
 pub data IsFirstByPhase (source : Source) (children : Children) (top : Bool) (r : PhaseRefusal) : Type 0 where
-  by_names : r.phase ≡ 0 → IsFirstFault (IsNameFault source children top) r.fault → r.size ≡ names_size source children r.fault → IsFirstByPhase source children top r
+  by_names : r.phase ≡ 0 → IsFirstFault (IsNameFault source children top) r.fault → r.size ≡ names_size source children r.fault →
+      IsFirstByPhase source children top r
   by_data : (kinds : Kinds) → IsNamed source children top kinds → r.phase ≡ 1
-      → IsFirstFault (IsDatFault (file_setting kinds children) (data_start (file_setting kinds children) source) source) r.fault → r.size ≡ None → IsFirstByPhase source children top r
-  by_code : (x : CompiledFile) → IsNamed source children top x.kinds → IsData source children x → r.phase ≡ 2 → IsFirstFault (IsCodeFault source children x) r.fault
+      → IsFirstFault (IsDatFault (file_setting kinds children) (data_start (file_setting kinds children) source) source) r.fault → r.size ≡ None →
+      IsFirstByPhase source children top r
+  by_code : (x : CompiledFile) → IsNamed source children top x.kinds → IsData source children x → r.phase ≡ 2 →
+      IsFirstFault (IsCodeFault source children x) r.fault
       → IfSizeAt (method_names children x) (numbered (items source)) r.fault r.size → IsFirstByPhase source children top r
 
 -- of the file of this number

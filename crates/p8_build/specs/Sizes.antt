@@ -35,14 +35,16 @@ pub record IsSizeAt (names : ℕ → MethodTree → Names) (ms : List MethodTree
 abbrev pub tells : PhaseFault → (phase : ℕ) → Refusal → Bool
 tells r phase refused = (r.phase == phase) && (r.fault.number == refusal_number refused)
 
--- How large what a refusal of a project tells is: the arguments of a call that has another number than is expected, the method whose frame is too large, the image
--- that is too large by where its first frame would end, and nothing of any other one.
+-- How large what a refusal of a project tells is: the arguments of a call that has another number than is expected, the method whose frame is too
+-- large, the image that is too large by where its first frame would end, and nothing of any other one.
 pub data IsSizeOf (files : List NamedSource) (children : List Children) (r : PhaseFault) (size : Option Size) : Type 0 where
   of_arguments : (file : NamedSource) (seen : Children) → tells r 0 WrongArity ≡ true → IsFile files children r.file file seen
       → size ≡ arguments_at file.tree seen r.fault.place → IsSizeOf files children r size
-  of_method : (file : NamedSource) (seen : Children) (x : CompiledFile) (method : MethodSize) → tells r 2 FrameTooLarge ≡ true → IsFile files children r.file file seen
+  of_method : (file : NamedSource) (seen : Children) (x : CompiledFile) (method : MethodSize) → tells r 2 FrameTooLarge ≡ true →
+      IsFile files children r.file file seen
       → IsNamed file.tree seen (r.file == 0) x.kinds → IsData file.tree seen x
-      → IsSizeAt (method_names seen x) (numbered (items file.tree)) r.fault.place method → size ≡ Some (size_case.Method method) → IsSizeOf files children r size
+      → IsSizeAt (method_names seen x) (numbered (items file.tree)) r.fault.place method → size ≡ Some (size_case.Method method) →
+      IsSizeOf files children r size
   of_image : (xs : List CompiledFile) → tells r 3 ImageTooLarge ≡ true → AreCompiled files children xs
       → size ≡ Some (size_case.Image (min (header_by (objects_of files children xs)).dcurr (2 ^ 31))) → IsSizeOf files children r size
   of_none : tells r 0 WrongArity ≡ false → tells r 2 FrameTooLarge ≡ false → tells r 3 ImageTooLarge ≡ false → size ≡ None → IsSizeOf files children r size

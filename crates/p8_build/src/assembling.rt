@@ -1,11 +1,11 @@
 // Where the data of a file begin.
 ghost use Rattle.std.specs.Prelude.{◌≡◌, ◌+◌, ◌*◌, IfOk};
-ghost use Rattle.p8_kinds.specs.ConstantEntries.{setting_of};
+ghost use Rattle.p8_fold.specs.ConstantEntries.{setting_of};
 ghost use Rattle.p8_constants.specs.Standing.{item_of as item_tree, items_of as item_trees};
 ghost use Rattle.p8_names.specs.Kinds.{object_in, objects, instances};
 
 use p8_constants::{Item, count_value};
-use p8_kinds::Consts;
+use p8_fold::Consts;
 use p8_words::NoMemory;
 
 /// Where a table of so many methods and instances ends: there is no memory for one that is longer than a number tells.

@@ -2,7 +2,7 @@
 ghost use Rattle.std.specs.Prelude.{◌≡◌};
 ghost use Rattle.p8_tree.specs.Views.{call_of, form_of, item_of, items_of, tree_of, trees_of, variable_of};
 ghost use Rattle.p8_tree.specs.Bridges.{boxed_index};
-ghost use Rattle.p8_kinds.specs.Verdicts.{boxed_bits};
+ghost use Rattle.p8_fold.specs.Verdicts.{boxed_bits};
 ghost use Rattle.p8_build.specs.Arguments.{in_bits, in_index, in_item, in_items, in_trees, in_variable, told_in, told_inside};
 ghost use Rattle.p8_build.specs.Searching.{search_of};
 

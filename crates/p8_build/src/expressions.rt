@@ -3,7 +3,7 @@ ghost use Rattle.std.specs.Prelude.{◌≡◌, [], ◌∷◌, ◌++◌, OnOk, op
 ghost use Rattle.p8_tree.specs.declared.places.Place.{Place};
 ghost use Rattle.p8_tree.specs.Views.{tree_of, form_of, variable_of, call_of, trees_of, items_of, item_of};
 ghost use Rattle.p8_tree.specs.Bridges.{boxed_index};
-ghost use Rattle.p8_kinds.specs.Verdicts.{boxed_bits};
+ghost use Rattle.p8_fold.specs.Verdicts.{boxed_bits};
 ghost use Rattle.p8_build.specs.Strings.{in_tree, in_form, in_variable, in_index, in_bits, in_item, in_trees, in_items, in_option};
 ghost use Rattle.p8_build.specs.Views.{texts_of};
 

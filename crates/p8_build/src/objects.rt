@@ -4,7 +4,7 @@ ghost use Rattle.std.specs.List.{flat_map};
 ghost use Rattle.p8_tree.specs.Sources.{Source};
 ghost use Rattle.p8_tree.specs.Views.{named_source_of};
 ghost use Rattle.p8_tree.specs.Projects.{most_files};
-ghost use Rattle.p8_kinds.specs.ConstantEntries.{setting_of};
+ghost use Rattle.p8_fold.specs.ConstantEntries.{setting_of};
 ghost use Rattle.p8_kinds.specs.declared.children.Children.{Children};
 ghost use Rattle.p8_constants.specs.Standing.{item_of as item_tree, items_of as item_trees};
 ghost use Rattle.p8_names.specs.Kinds.{object_in as objects_in, objects};
@@ -17,8 +17,8 @@ use crate::accepting::AcceptedFile;
 use crate::coding::parts_of;
 use crate::texts::{TextNumbers, strings_of_all, texts_in};
 use p8_constants::{Item, count_value};
+use p8_fold::Consts;
 use p8_image::{ObjectPart, Variable};
-use p8_kinds::Consts;
 use p8_stmt::MethodCode;
 use p8_tree::{List, ProjectFile, Text};
 use p8_words::NoMemory;
@@ -51,7 +51,8 @@ pub fn object_of_codes(
 ) -> Result<ObjectPart, NoMemory>
     requires { length files.now ≤ most_files }
     ensures made { IfOk result (λ object. object ≡ object_in (map named_source_of files.now) file.now codes.now) }
-    ensures object { IfOk result (λ object. (source : Source) → (children : Children) → HasTables source children file.now → object ≡ object_of (map named_source_of files.now) source children (recoded_file file.now codes.now)) }
+    ensures object { IfOk result (λ object. (source : Source) → (children : Children) → HasTables source children file.now →
+        object ≡ object_of (map named_source_of files.now) source children (recoded_file file.now codes.now)) }
 {
     let items = file.items.as_slice();
     let methods = file.methods.as_slice();
@@ -106,7 +107,8 @@ fn instances_of(
     items: &[Item<'_>],
 ) -> Result<List<u8>, AllocError>
     requires { length files.now ≤ most_files }
-    ensures { IfOk result (λ instances. instances ≡ flat_map (instances_of (map named_source_of files.now) (setting_of consts.now)) (objects (item_trees items.now))) }
+    ensures { IfOk result (λ instances. instances ≡ flat_map (instances_of (map named_source_of files.now) (setting_of consts.now))
+        (objects (item_trees items.now))) }
 {
     let mut instances = List::new(alloc);
     for item in items {
@@ -122,7 +124,8 @@ fn put_instances(
     item: Item<'_>,
 ) -> Result<(), AllocError>
     requires { length files.now ≤ most_files }
-    ensures { OnOk result (instances.new ≡ instances.old ++ flat_map (instances_of (map named_source_of files.now) (setting_of consts.now)) (objects_in (item_tree item.entry))) }
+    ensures { OnOk result (instances.new ≡ instances.old ++
+        flat_map (instances_of (map named_source_of files.now) (setting_of consts.now)) (objects_in (item_tree item.entry))) }
 {
     match item {
         Item::Object(object) => {

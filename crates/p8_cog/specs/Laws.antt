@@ -18,7 +18,8 @@ pub asked-first : (b : Begun) (c : ℕ) (a : Access) → asks b [] c a → first
 asked-first (PasmBegun loaded) c a asked = Instructions.asked-first (PasmBegun loaded) c a asked
 asked-first (SpinBegun entered) c a asked = Bytecodes.asked-first (SpinBegun entered) c a asked
 
-pub asked-later : (b : Begun) (ts : List Turn) (turn : Turn) (c d : ℕ) (a e : Access) → asks b ts c a → IsTurnAt c a turn → asks b (ts ++ turn ∷ []) d e → turn.key.clock < d
+pub asked-later : (b : Begun) (ts : List Turn) (turn : Turn) (c d : ℕ) (a e : Access) → asks b ts c a → IsTurnAt c a turn →
+    asks b (ts ++ turn ∷ []) d e → turn.key.clock < d
 asked-later (PasmBegun loaded) ts turn c d a e one at other = Instructions.asked-later (PasmBegun loaded) ts turn c d a e one at other
 asked-later (SpinBegun entered) ts turn c d a e one at other = Bytecodes.asked-later (SpinBegun entered) ts turn c d a e one at other
 

@@ -1,5 +1,6 @@
 -- internal: how far a course goes, and how it ends. No public contract cites it.
-use Rattle.std.proofs.Common.{◌≡◌, ℕ, ◌+◌, ◌<◌, ◌≤◌, ◌^◌, Bool, true, false, List, [], ◌∷◌, ◌++◌, Option, Some, None, refl, sym, ◌∙◌, ap, subst, arith, nat_le, ◌||◌, if◌then◌else◌}
+use Rattle.std.proofs.Common.{◌≡◌, ℕ, ◌+◌, ◌<◌, ◌≤◌, ◌^◌, Bool, true, false, List, [], ◌∷◌, ◌++◌, Option, Some, None, refl, sym, ◌∙◌, ap, subst}
+use Rattle.std.proofs.Common.{arith, nat_le, ◌||◌, if◌then◌else◌}
 use Rattle.p8_access.specs.declared.kinds.Access.{Access}
 use Rattle.p8_access.specs.declared.kinds.Access.TheVariants.{Wait, OutSet, DirSet}
 use Rattle.p8_access.specs.declared.order.Turn.{Turn}
@@ -14,7 +15,9 @@ use Rattle.p8_cog.specs.declared.hub.Request.{Request}
 use Rattle.p8_cog.specs.declared.state.State.{State}
 use Rattle.p8_cog.specs.declared.progress.Had.{Had}
 use Rattle.p8_cog.specs.Instructions.{djnz, kind_of, source_access}
-use Rattle.p8_cog.specs.Replay.{Course, Ask, Go, End, ask, at_hand, destination_value, source_value, sourced_by, sourced, answered, test_of, wait_effect, effect, jumps, computed, compute, result_access, written_by, ends_after, hub_request, ask_hub, use_hub, is_port_wait, wait, does, instruction, played, Outcome, Asks, Goes, Ends}
+use Rattle.p8_cog.specs.Replay.{Course, Ask, Go, End, ask, at_hand, destination_value, source_value, sourced_by, sourced, answered, test_of}
+use Rattle.p8_cog.specs.Replay.{wait_effect, effect, jumps, computed, compute, result_access, written_by, ends_after, hub_request, ask_hub, use_hub}
+use Rattle.p8_cog.specs.Replay.{is_port_wait, wait, does, instruction, played, Outcome, Asks, Goes, Ends}
 use Rattle.p8_cog.specs.Standing.{turns_of, clock_in}
 use Rattle.p8_cog.specs.Stops.{IsFrom, left_of, latest, is_asking, IsHalf, Comes}
 use Rattle.p8_cog.specs.Replaying.{if-holds, source-holds, result-holds, behind_hub, behind_wait, whole-in, came}
@@ -50,14 +53,22 @@ end-by cog false rest holds = holds false
 
 -- ---- the parts of an instruction
 
-ask-close : (cog clock : ℕ) (access : Access) (go : Turn → Course) → ((turn : Turn) → IsOnTime access clock turn.key.clock → IsWithin turn.key.clock (go turn)) → ((turn : Turn) → IsClose (go turn)) → IsClose (ask cog clock access go)
+ask-close : (cog clock : ℕ) (access : Access) (go : Turn → Course) →
+    ((turn : Turn) → IsOnTime access clock turn.key.clock → IsWithin turn.key.clock (go turn)) → ((turn : Turn) → IsClose (go turn)) →
+    IsClose (ask cog clock access go)
 ask-close cog clock access go near rest =
-    λ turn. (λ on. if-holds (IsWithin turn.key.clock) (is_last cog access) End (go turn) tt (near turn on), if-holds IsClose (is_last cog access) End (go turn) tt (rest turn))
+    λ turn. (
+      λ on. if-holds (IsWithin turn.key.clock) (is_last cog access) End (go turn) tt (near turn on),
+      if-holds IsClose (is_last cog access) End
+          (go turn) tt (rest turn),
+    )
 
-ask-ends : (cog clock : ℕ) (last : Bool) (access : Access) (go : Turn → Course) → ((turn : Turn) (b : Bool) → EndsBy cog b (go turn)) → EndsBy cog last (ask cog clock access go)
+ask-ends : (cog clock : ℕ) (last : Bool) (access : Access) (go : Turn → Course) → ((turn : Turn) (b : Bool) → EndsBy cog b (go turn)) →
+    EndsBy cog last (ask cog clock access go)
 ask-ends cog clock last access go rest = λ turn. end-by cog (is_last cog access) (go turn) (rest turn)
 
-written-within : (found : Option Access) (cog clock base : ℕ) (next : State) → clock ≤ base + 16 → next.clock ≤ base + 8 → IsWithin base (written_by found cog clock next)
+written-within : (found : Option Access) (cog clock base : ℕ) (next : State) → clock ≤ base + 16 → next.clock ≤ base + 8 →
+    IsWithin base (written_by found cog clock next)
 written-within None cog clock base next here there = there
 written-within (Some access) cog clock base next here there = here
 
@@ -112,7 +123,8 @@ computed-within s source =
 
 compute-within : (cog base : ℕ) (s : State) (source : ℕ) → s.clock ≤ base → IsWithin base (compute cog s source)
 compute-within cog base s source le =
-    written-within (result_access (at_hand s) (effect s source).result) cog (s.clock + 3) base (computed s source) (omega (arith, le)) (omega (arith, le, computed-within s source))
+    written-within (result_access (at_hand s) (effect s source).result) cog (s.clock + 3) base (computed s source) (omega (arith, le))
+    (omega (arith, le, computed-within s source))
 
 compute-close : (cog : ℕ) (s : State) (source : ℕ) → IsClose (compute cog s source)
 compute-close cog s source =
@@ -122,17 +134,20 @@ compute-ends : (cog : ℕ) (s : State) (source : ℕ) (last : Bool) → EndsBy c
 compute-ends cog s source last =
     written-ends (result_access (at_hand s) (effect s source).result) cog (s.clock + 3) last (computed s source)
 
-sourced-within : (found : Option Access) (clock base : ℕ) (s : State) (go : ℕ → Course) → clock ≤ base + 16 → ((value : ℕ) → IsWithin base (go value)) → IsWithin base (sourced_by found clock s go)
+sourced-within : (found : Option Access) (clock base : ℕ) (s : State) (go : ℕ → Course) → clock ≤ base + 16 →
+    ((value : ℕ) → IsWithin base (go value)) → IsWithin base (sourced_by found clock s go)
 sourced-within None clock base s go here rest = rest _
 sourced-within (Some access) clock base s go here rest = here
 
-sourced-close : (clock : ℕ) (s : State) (go : ℕ → Course) → ((value : ℕ) → IsWithin clock (go value)) → ((value : ℕ) → IsClose (go value)) → IsClose (sourced clock s go)
+sourced-close : (clock : ℕ) (s : State) (go : ℕ → Course) → ((value : ℕ) → IsWithin clock (go value)) → ((value : ℕ) → IsClose (go value)) →
+    IsClose (sourced clock s go)
 sourced-close clock s go near rest =
     source-holds (λ found. IsClose (sourced_by found clock s go)) (at_hand s) (rest (source_value s))
     (λ turn. (λ on. subst (λ (k : ℕ). IsWithin k (go (value_of turn.answer))) on (near (value_of turn.answer)), rest (value_of turn.answer)))
     (λ turn. (λ on. subst (λ (k : ℕ). IsWithin k (go (value_of turn.answer))) on (near (value_of turn.answer)), rest (value_of turn.answer)))
 
-sourced-ends : (cog clock : ℕ) (last : Bool) (s : State) (go : ℕ → Course) → ((value : ℕ) (b : Bool) → EndsBy cog b (go value)) → EndsBy cog last (sourced clock s go)
+sourced-ends : (cog clock : ℕ) (last : Bool) (s : State) (go : ℕ → Course) → ((value : ℕ) (b : Bool) → EndsBy cog b (go value)) →
+    EndsBy cog last (sourced clock s go)
 sourced-ends cog clock last s go rest =
     source-holds (λ found. EndsBy cog last (sourced_by found clock s go)) (at_hand s) (rest (source_value s) last)
     (λ turn. rest (value_of turn.answer) _)
@@ -186,11 +201,13 @@ played-up (Ask clock access go) base within = within
 played-up (Go s) base within = within
 played-up End base within = tt
 
-played-on : (course : Course) (ts : List Turn) (turn : Turn) (clock : ℕ) (access : Access) → IsClose course → IsOnTime access clock turn.key.clock → played course ts ≡ Asks clock access → IsUpTo turn.key.clock (played course (ts ++ turn ∷ []))
+played-on : (course : Course) (ts : List Turn) (turn : Turn) (clock : ℕ) (access : Access) → IsClose course → IsOnTime access clock turn.key.clock →
+    played course ts ≡ Asks clock access → IsUpTo turn.key.clock (played course (ts ++ turn ∷ []))
 played-on (Ask c a go) [] turn clock access close on asks =
     let same : c ≡ clock = cc in
     let what : a ≡ access = cc in
-    played-up (go turn) _ ((close turn).0 (subst (λ (k : ℕ). IsOnTime a k turn.key.clock) (sym same) (subst (λ (x : Access). IsOnTime x clock turn.key.clock) (sym what) on)))
+    played-up (go turn) _ ((close turn).0 (subst (λ (k : ℕ). IsOnTime a k turn.key.clock) (sym same)
+    (subst (λ (x : Access). IsOnTime x clock turn.key.clock) (sym what) on)))
 played-on (Ask c a go) (first ∷ ts) turn clock access close on asks =
     played-on (go first) ts turn clock access (close first).1 on asks
 played-on (Go s) ts turn clock access close on asks = absurd (let e : Goes s ts ≡ Asks clock access = asks in cc)
@@ -201,7 +218,8 @@ ended-at cog b (Ask c a go) ends e = absurd (let x : Asks c a ≡ Ends = e in cc
 ended-at cog b (Go s) ends e = absurd (let x : Goes s [] ≡ Ends = e in cc)
 ended-at cog b End ends e = ends
 
-ended-by : (cog : ℕ) (last : Bool) (course : Course) (ts : List Turn) (turn : Turn) (clock : ℕ) (access : Access) → EndsBy cog last course → played course ts ≡ Asks clock access → played course (ts ++ turn ∷ []) ≡ Ends → is_last cog access ≡ true
+ended-by : (cog : ℕ) (last : Bool) (course : Course) (ts : List Turn) (turn : Turn) (clock : ℕ) (access : Access) → EndsBy cog last course →
+    played course ts ≡ Asks clock access → played course (ts ++ turn ∷ []) ≡ Ends → is_last cog access ≡ true
 ended-by cog last (Ask c a go) [] turn clock access ends asks over =
     let what : a ≡ access = (let x : Asks c a ≡ Asks clock access = asks in cc) in
     ap (is_last cog) (sym what) ∙ ended-at cog (is_last cog a) (go turn) (ends turn) over
@@ -223,12 +241,14 @@ begin-near cog clock s access e =
     subst (IsUpTo s.clock) e (played-up (instruction cog s) s.clock (does-within (kind_of (at_hand s) s.c s.z) cog s))
 
 -- what a turn leads to isn't far after it
-came-near : (cog : ℕ) (s : State) (ts : List Turn) (turn : Turn) → Comes (played (instruction cog s) ts) turn → IsUpTo turn.key.clock (played (instruction cog s) (ts ++ turn ∷ []))
+came-near : (cog : ℕ) (s : State) (ts : List Turn) (turn : Turn) → Comes (played (instruction cog s) ts) turn →
+    IsUpTo turn.key.clock (played (instruction cog s) (ts ++ turn ∷ []))
 came-near cog s ts turn comes =
     played-on (instruction cog s) ts turn comes.0 turn.access (does-close (kind_of (at_hand s) s.c s.z) cog s) comes.2 comes.1
 
 -- the turn that ends a life is that of a last access
-pub last-ends : (cog : ℕ) (s : State) (left : List Turn) (turn : Turn) → Comes (played (instruction cog s) left) turn → played (instruction cog s) (left ++ turn ∷ []) ≡ Ends → is_last cog turn.access ≡ true
+pub last-ends : (cog : ℕ) (s : State) (left : List Turn) (turn : Turn) → Comes (played (instruction cog s) left) turn →
+    played (instruction cog s) (left ++ turn ∷ []) ≡ Ends → is_last cog turn.access ≡ true
 last-ends cog s left turn comes e =
     ended-by cog false (instruction cog s) left turn comes.0 turn.access (does-ends (kind_of (at_hand s) s.c s.z) cog false s) comes.1 e
 
@@ -242,14 +262,18 @@ ended-behind cog (first ∷ ts) turn is =
     or-more (is_last cog first.access) (has_ended cog (ts ++ turn ∷ [])) (ended-behind cog ts turn is)
 
 -- it is done by that turn
-pub whole-takes : (cog : ℕ) (s next : State) (left turns : List Turn) (turn : Turn) → turns ≡ left ++ turn ∷ [] → Comes (played (instruction cog s) left) turn → played (instruction cog s) turns ≡ Goes next (left_of (played (instruction cog s) turns)) → (played (instruction cog s) (left ++ turn ∷ []) ≡ Goes next []) × (turn.key.clock < next.clock) × (next.clock ≤ turn.key.clock + 8)
+pub whole-takes : (cog : ℕ) (s next : State) (left turns : List Turn) (turn : Turn) → turns ≡ left ++ turn ∷ [] →
+    Comes (played (instruction cog s) left) turn → played (instruction cog s) turns ≡ Goes next (left_of (played (instruction cog s) turns)) →
+    (played (instruction cog s) (left ++ turn ∷ []) ≡ Goes next []) × (turn.key.clock < next.clock) × (next.clock ≤ turn.key.clock + 8)
 whole-takes cog s next left turns turn is comes e =
     let w = whole-in (turn.key.clock + 1) (played (instruction cog s) (left ++ turn ∷ [])) next (came cog s left turn comes)
     (subst (λ (ts : List Turn). played (instruction cog s) ts ≡ Goes next (left_of (played (instruction cog s) ts))) is e) in
     (w.0, omega (arith, w.1), subst (IsUpTo turn.key.clock) w.0 (came-near cog s left turn comes))
 
 -- it asks a further access
-pub half-holds : (cog clock : ℕ) (s next : State) (left turns : List Turn) (turn : Turn) (had : Had) (access : Access) → turns ≡ left ++ turn ∷ [] → turns_of had ≡ turns → next ≡ s → clock_in s.clock had ≡ turn.key.clock → s.clock + 1 < 2 ^ 62 → latest turns < 2 ^ 62 → Comes (played (instruction cog s) left) turn → played (instruction cog s) turns ≡ Asks clock access → IsHalf cog (record { begun = next; had = had })
+pub half-holds : (cog clock : ℕ) (s next : State) (left turns : List Turn) (turn : Turn) (had : Had) (access : Access) → turns ≡ left ++ turn ∷ [] →
+    turns_of had ≡ turns → next ≡ s → clock_in s.clock had ≡ turn.key.clock → s.clock + 1 < 2 ^ 62 → latest turns < 2 ^ 62 →
+    Comes (played (instruction cog s) left) turn → played (instruction cog s) turns ≡ Asks clock access → IsHalf cog (record { begun = next; had = had })
 half-holds cog clock s next left turns turn had access is keeps same last begun below comes asks = λ half.
     let here : played (instruction cog next) (turns_of had) ≡ played (instruction cog s) turns =
     ap (λ (x : State). played (instruction cog x) (turns_of had)) same ∙ ap (played (instruction cog s)) keeps in
@@ -258,8 +282,10 @@ half-holds cog clock s next left turns turn had access is keeps same last begun 
     let had-below : latest (turns_of had) < 2 ^ 62 = subst (λ (ts : List Turn). latest ts < 2 ^ 62) (sym keeps) below in (
       ap is_asking (here ∙ asks),
       (λ c a e.
-          let from : IsFrom (turn.key.clock + 1) (played (instruction cog s) turns) = subst (λ (ts : List Turn). IsFrom (turn.key.clock + 1) (played (instruction cog s) ts)) (sym is) (came cog s left turn comes) in
-          let near : IsUpTo turn.key.clock (played (instruction cog s) turns) = subst (λ (ts : List Turn). IsUpTo turn.key.clock (played (instruction cog s) ts)) (sym is) (came-near cog s left turn comes) in
+          let from : IsFrom (turn.key.clock + 1) (played (instruction cog s) turns) = subst
+          (λ (ts : List Turn). IsFrom (turn.key.clock + 1) (played (instruction cog s) ts)) (sym is) (came cog s left turn comes) in
+          let near : IsUpTo turn.key.clock (played (instruction cog s) turns) = subst
+          (λ (ts : List Turn). IsUpTo turn.key.clock (played (instruction cog s) ts)) (sym is) (came-near cog s left turn comes) in
           let le : turn.key.clock + 1 ≤ c = subst (IsFrom (turn.key.clock + 1)) (sym here ∙ e) from in
           let ge : c ≤ turn.key.clock + 16 = subst (IsUpTo turn.key.clock) (sym here ∙ e) near in
           (omega (arith, le, reached), omega (arith, ge, reached))),

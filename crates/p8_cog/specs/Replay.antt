@@ -1,7 +1,8 @@
 -- The life of a PASM cog, replayed whole from its start: the reads of its load, and then instruction by
 -- instruction, each of them one formula with its accesses in order (Propeller Manual v1.2, assembly
 -- reference; the clocks, the flags of instructions of the hub and the halts are this project's profile).
-use Rattle.std.specs.Prelude.{ℕ, zero, suc, ◌+◌, ◌*◌, ◌/◌, ◌%◌, ◌^◌, ◌==◌, ◌≡◌, ◌⊎◌, ◌&&◌, nat_lt, nat_le, not, if◌then◌else◌, Bool, true, false, List, [], ◌∷◌, ◌++◌, Option, Some, None, length, slice_index, slice_set, replicate}
+use Rattle.std.specs.Prelude.{ℕ, zero, suc, ◌+◌, ◌*◌, ◌/◌, ◌%◌, ◌^◌, ◌==◌, ◌≡◌, ◌⊎◌, ◌&&◌, nat_lt, nat_le, not, if◌then◌else◌, Bool, true, false}
+use Rattle.std.specs.Prelude.{List, [], ◌∷◌, ◌++◌, Option, Some, None, length, slice_index, slice_set, replicate}
 use Rattle.p8_access.specs.declared.kinds.Width.{Width}
 use Rattle.p8_access.specs.declared.kinds.Width.TheVariants.{Long}
 use Rattle.p8_access.specs.declared.kinds.Origin.TheVariants.{Pasm}
@@ -10,7 +11,8 @@ use Rattle.p8_access.specs.declared.kinds.Test.TheVariants.{Count, PinsEqual, Pi
 use Rattle.p8_access.specs.declared.kinds.Reason.{Reason}
 use Rattle.p8_access.specs.declared.kinds.Reason.TheVariants.{Opcode, Rom, Register, Port, Reset}
 use Rattle.p8_access.specs.declared.kinds.Access.{Access}
-use Rattle.p8_access.specs.declared.kinds.Access.TheVariants.{Read, Write, CogId, CogInit, CogStop, LockNew, LockRet, LockSet, LockClr, ClkSet, OutSet, DirSet, Wait, Halt}
+use Rattle.p8_access.specs.declared.kinds.Access.TheVariants.{Read, Write, CogId, CogInit, CogStop, LockNew, LockRet, LockSet, LockClr, ClkSet}
+use Rattle.p8_access.specs.declared.kinds.Access.TheVariants.{OutSet, DirSet, Wait, Halt}
 use Rattle.p8_access.specs.declared.kinds.Answer.{Answer}
 use Rattle.p8_access.specs.declared.kinds.Answer.TheVariants.{Done, Value, Number, Was}
 use Rattle.p8_access.specs.declared.order.Turn.{Turn}
@@ -25,7 +27,8 @@ use Rattle.p8_cog.specs.declared.kind.Kind.{Kind}
 use Rattle.p8_cog.specs.declared.kind.Kind.TheVariants.{Skipped, Halting, OfHub, Waiting, Computing}
 use Rattle.p8_cog.specs.declared.hub.Request.{Request}
 use Rattle.p8_cog.specs.declared.state.State.{State}
-use Rattle.p8_cog.specs.Instructions.{par_register, inb_register, outa_register, dira_register, ctra_register, hubop, jmpret, djnz, tjz, waitpeq, waitpne, waitcnt, clkset, cogid, coginit, cogstop, locknew, lockret, lockset, kind_of, width_of, source_access}
+use Rattle.p8_cog.specs.Instructions.{par_register, inb_register, outa_register, dira_register, ctra_register, hubop, jmpret, djnz, tjz, waitpeq}
+use Rattle.p8_cog.specs.Instructions.{waitpne, waitcnt, clkset, cogid, coginit, cogstop, locknew, lockret, lockset, kind_of, width_of, source_access}
 
 -- ---- what an instruction does beyond its own registers
 

@@ -1,5 +1,6 @@
 -- internal: what follows from a replay. No public contract cites it.
-use Rattle.std.proofs.Common.{◌≡◌, ◌⊎◌, inl, inr, ℕ, zero, suc, ◌+◌, ◌*◌, ◌<◌, ◌≤◌, Bool, true, false, List, [], ◌∷◌, ◌++◌, length, Option, Some, None, refl, sym, ◌∙◌, ap, subst, arith, add_comm, add-one, nat_le, not, ◌&&◌, ◌==◌, if◌then◌else◌}
+use Rattle.std.proofs.Common.{◌≡◌, ◌⊎◌, inl, inr, ℕ, zero, suc, ◌+◌, ◌*◌, ◌<◌, ◌≤◌, Bool, true, false, List, [], ◌∷◌, ◌++◌, length, Option, Some}
+use Rattle.std.proofs.Common.{None, refl, sym, ◌∙◌, ap, subst, arith, add_comm, add-one, nat_le, not, ◌&&◌, ◌==◌, if◌then◌else◌}
 use Rattle.std.proofs.lemmas.List.{length-append}
 use Rattle.std.proofs.lemmas.Grind.{common_steps}
 use Rattle.p8_access.specs.declared.kinds.Reason.TheVariants.{Register}
@@ -17,7 +18,10 @@ use Rattle.p8_cog.specs.declared.kind.Kind.TheVariants.{Skipped, Halting, OfHub,
 use Rattle.p8_cog.specs.declared.hub.Request.{Request}
 use Rattle.p8_cog.specs.declared.state.State.{State}
 use Rattle.p8_cog.specs.Instructions.{cnt_register, ina_register, outa_register, dira_register, ctra_register, djnz, kind_of, source_access}
-use Rattle.p8_cog.specs.Replay.{Course, Ask, Go, End, ask, at_hand, destination_value, source_value, sourced_by, sourced, answered, test_of, wait_effect, effect, jumps, computed, compute, result_access, written_by, ends_after, hub_request, ask_hub, use_hub, is_port_wait, wait, does, instruction, played, Outcome, Asks, Goes, Ends, step, after, loading, loaded_by, replayed, IsAsked}
+use Rattle.p8_cog.specs.Replay.{Course, Ask, Go, End, ask, at_hand, destination_value, source_value, sourced_by, sourced, answered, test_of}
+use Rattle.p8_cog.specs.Replay.{wait_effect, effect, jumps, computed, compute, result_access, written_by, ends_after, hub_request, ask_hub, use_hub}
+use Rattle.p8_cog.specs.Replay.{is_port_wait, wait, does, instruction, played, Outcome, Asks, Goes, Ends, step, after, loading, loaded_by, replayed}
+use Rattle.p8_cog.specs.Replay.{IsAsked}
 use Rattle.p8_cog.specs.Stops.{IsFrom, left_of, Comes}
 
 -- ---- one course
@@ -73,7 +77,8 @@ source-holds P i none clock pins =
     (if-option P (i.source == ina_register) _ _ pins none))
 
 -- and of every access that a result makes
-pub result-holds : (P : Option Access → Type 0) (i : Instr) (value : ℕ) → P None → P (Some (OutSet value)) → P (Some (DirSet value)) → P (Some (Halt (Register i.dest))) → P (result_access i value)
+pub result-holds : (P : Option Access → Type 0) (i : Instr) (value : ℕ) → P None → P (Some (OutSet value)) → P (Some (DirSet value)) →
+    P (Some (Halt (Register i.dest))) → P (result_access i value)
 result-holds P i value none out dir stop =
     if-option P (writes_result i) _ _
     (if-option P (i.dest == outa_register) _ _ out
@@ -83,14 +88,21 @@ result-holds P i value none out dir stop =
 
 -- ---- the parts of an instruction
 
-pub ask-orderly : (cog clock : ℕ) (access : Access) (go : Turn → Course) → ((turn : Turn) → IsOnTime access clock turn.key.clock → IsNotBefore (turn.key.clock + 1) (go turn)) → ((turn : Turn) → IsOrderly (go turn)) → IsOrderly (ask cog clock access go)
+pub ask-orderly : (cog clock : ℕ) (access : Access) (go : Turn → Course) →
+    ((turn : Turn) → IsOnTime access clock turn.key.clock → IsNotBefore (turn.key.clock + 1) (go turn)) → ((turn : Turn) → IsOrderly (go turn)) →
+    IsOrderly (ask cog clock access go)
 ask-orderly cog clock access go later rest =
-    λ turn. (λ on. if-holds (IsNotBefore (turn.key.clock + 1)) (is_last cog access) End (go turn) tt (later turn on), if-holds IsOrderly (is_last cog access) End (go turn) tt (rest turn))
+    λ turn. (
+      λ on. if-holds (IsNotBefore (turn.key.clock + 1)) (is_last cog access) End (go turn) tt (later turn on),
+      if-holds IsOrderly
+          (is_last cog access) End (go turn) tt (rest turn),
+    )
 
 ask-short : (cog clock n : ℕ) (access : Access) (go : Turn → Course) → ((turn : Turn) → IsShort (go turn) n) → IsShort (ask cog clock access go) (suc n)
 ask-short cog clock n access go rest = λ turn. if-holds (λ c. IsShort c n) (is_last cog access) End (go turn) tt (rest turn)
 
-written-not_before : (found : Option Access) (cog clock least : ℕ) (next : State) → least ≤ clock → least ≤ next.clock → IsNotBefore least (written_by found cog clock next)
+written-not_before : (found : Option Access) (cog clock least : ℕ) (next : State) → least ≤ clock → least ≤ next.clock →
+    IsNotBefore least (written_by found cog clock next)
 written-not_before None cog clock least next here there = there
 written-not_before (Some access) cog clock least next here there = here
 
@@ -156,27 +168,32 @@ computed-clock s source =
 
 compute-not_before : (cog least : ℕ) (s : State) (source : ℕ) → least ≤ s.clock + 3 → IsNotBefore least (compute cog s source)
 compute-not_before cog least s source here =
-    written-not_before (result_access (at_hand s) (effect s source).result) cog (s.clock + 3) least (computed s source) here (omega (arith, here, computed-clock s source))
+    written-not_before (result_access (at_hand s) (effect s source).result) cog (s.clock + 3) least (computed s source) here
+    (omega (arith, here, computed-clock s source))
 
 compute-orderly : (cog : ℕ) (s : State) (source : ℕ) → IsOrderly (compute cog s source)
 compute-orderly cog s source =
     written-orderly (at_hand s) (effect s source).result cog (s.clock + 3) (computed s source) (omega (arith, computed-clock s source))
 
-sourced-not_before : (found : Option Access) (clock least : ℕ) (s : State) (go : ℕ → Course) → least ≤ clock → ((value : ℕ) → IsNotBefore least (go value)) → IsNotBefore least (sourced_by found clock s go)
+sourced-not_before : (found : Option Access) (clock least : ℕ) (s : State) (go : ℕ → Course) → least ≤ clock →
+    ((value : ℕ) → IsNotBefore least (go value)) → IsNotBefore least (sourced_by found clock s go)
 sourced-not_before None clock least s go here rest = rest _
 sourced-not_before (Some access) clock least s go here rest = here
 
-sourced-orderly : (clock : ℕ) (s : State) (go : ℕ → Course) → ((value : ℕ) → IsNotBefore (clock + 1) (go value)) → ((value : ℕ) → IsOrderly (go value)) → IsOrderly (sourced clock s go)
+sourced-orderly : (clock : ℕ) (s : State) (go : ℕ → Course) → ((value : ℕ) → IsNotBefore (clock + 1) (go value)) →
+    ((value : ℕ) → IsOrderly (go value)) → IsOrderly (sourced clock s go)
 sourced-orderly clock s go later rest =
     source-holds (λ found. IsOrderly (sourced_by found clock s go)) (at_hand s) (rest (source_value s))
     (λ turn. (λ on. subst (λ (k : ℕ). IsNotBefore (k + 1) (go (value_of turn.answer))) on (later (value_of turn.answer)), rest (value_of turn.answer)))
     (λ turn. (λ on. subst (λ (k : ℕ). IsNotBefore (k + 1) (go (value_of turn.answer))) on (later (value_of turn.answer)), rest (value_of turn.answer)))
 
-sourced-paced : (found : Option Access) (clock begin : ℕ) (s : State) (go : ℕ → Course) → ((value : ℕ) → IsPaced begin (go value)) → IsPaced begin (sourced_by found clock s go)
+sourced-paced : (found : Option Access) (clock begin : ℕ) (s : State) (go : ℕ → Course) → ((value : ℕ) → IsPaced begin (go value)) →
+    IsPaced begin (sourced_by found clock s go)
 sourced-paced None clock begin s go rest = rest _
 sourced-paced (Some access) clock begin s go rest = tt
 
-sourced-short : (found : Option Access) (clock n : ℕ) (s : State) (go : ℕ → Course) → ((value k : ℕ) → IsShort (go value) (suc (suc k))) → IsShort (sourced_by found clock s go) (suc (suc (suc n)))
+sourced-short : (found : Option Access) (clock n : ℕ) (s : State) (go : ℕ → Course) → ((value k : ℕ) → IsShort (go value) (suc (suc k))) →
+    IsShort (sourced_by found clock s go) (suc (suc (suc n)))
 sourced-short None clock n s go rest = rest _ (suc n)
 sourced-short (Some access) clock n s go rest = λ turn. rest _ n
 
@@ -192,7 +209,8 @@ does-not_before Waiting cog s =
     if-holds (IsNotBefore s.clock) (is_port_wait s) _ _ (omega arith)
     (sourced-not_before (source_access (at_hand s)) (s.clock + 2) s.clock s (wait cog s) (omega arith) (λ value. omega arith))
 does-not_before Computing cog s =
-    sourced-not_before (source_access (at_hand s)) (s.clock + 2) s.clock s (compute cog s) (omega arith) (λ value. compute-not_before cog s.clock s value (omega arith))
+    sourced-not_before (source_access (at_hand s)) (s.clock + 2) s.clock s (compute cog s) (omega arith)
+    (λ value. compute-not_before cog s.clock s value (omega arith))
 
 does-orderly : (kind : Kind) (cog : ℕ) (s : State) → IsOrderly (does kind cog s)
 does-orderly Skipped cog s = tt
@@ -253,11 +271,13 @@ played-more (Go s) ts extra moves = refl
 played-more End ts extra moves = refl
 
 -- with the turn of the access that it asks, a course comes to what is later than that turn
-played-then : (course : Course) (ts : List Turn) (turn : Turn) (clock : ℕ) (access : Access) → IsOrderly course → IsOnTime access clock turn.key.clock → played course ts ≡ Asks clock access → IsFrom (turn.key.clock + 1) (played course (ts ++ turn ∷ []))
+played-then : (course : Course) (ts : List Turn) (turn : Turn) (clock : ℕ) (access : Access) → IsOrderly course →
+    IsOnTime access clock turn.key.clock → played course ts ≡ Asks clock access → IsFrom (turn.key.clock + 1) (played course (ts ++ turn ∷ []))
 played-then (Ask c a go) [] turn clock access orderly on asks =
     let same : c ≡ clock = cc in
     let what : a ≡ access = cc in
-    played-from (go turn) _ ((orderly turn).0 (subst (λ (k : ℕ). IsOnTime a k turn.key.clock) (sym same) (subst (λ (x : Access). IsOnTime x clock turn.key.clock) (sym what) on)))
+    played-from (go turn) _ ((orderly turn).0 (subst (λ (k : ℕ). IsOnTime a k turn.key.clock) (sym same)
+    (subst (λ (x : Access). IsOnTime x clock turn.key.clock) (sym what) on)))
 played-then (Ask c a go) (first ∷ ts) turn clock access orderly on asks =
     played-then (go first) ts turn clock access (orderly first).1 on asks
 played-then (Go s) ts turn clock access orderly on asks = absurd (let e : Goes s ts ≡ Asks clock access = asks in cc)
@@ -269,12 +289,14 @@ played-none (Ask c a go) clock access short asks = short
 played-none (Go s) clock access short asks = let e : Goes s [] ≡ Asks clock access = asks in cc
 played-none End clock access short asks = let e : Ends ≡ Asks clock access = asks in cc
 
-played-one : (n : ℕ) (course : Course) (turn : Turn) (left : List Turn) (clock : ℕ) (access : Access) → IsShort course (suc n) → ((rest : Course) → IsShort rest n → played rest left ≡ Asks clock access → ⊥) → played course (turn ∷ left) ≡ Asks clock access → ⊥
+played-one : (n : ℕ) (course : Course) (turn : Turn) (left : List Turn) (clock : ℕ) (access : Access) → IsShort course (suc n) →
+    ((rest : Course) → IsShort rest n → played rest left ≡ Asks clock access → ⊥) → played course (turn ∷ left) ≡ Asks clock access → ⊥
 played-one n (Ask c a go) turn left clock access short rest asks = rest (go turn) (short turn) asks
 played-one n (Go s) turn left clock access short rest asks = let e : Goes s (turn ∷ left) ≡ Asks clock access = asks in cc
 played-one n End turn left clock access short rest asks = let e : Ends ≡ Asks clock access = asks in cc
 
-pub third-last : (cog : ℕ) (s : State) (first second third : Turn) (clock : ℕ) (access : Access) → played (instruction cog s) (first ∷ second ∷ third ∷ []) ≡ Asks clock access → ⊥
+pub third-last : (cog : ℕ) (s : State) (first second third : Turn) (clock : ℕ) (access : Access) →
+    played (instruction cog s) (first ∷ second ∷ third ∷ []) ≡ Asks clock access → ⊥
 third-last cog s first second third clock access asks =
     played-one (suc (suc zero)) (instruction cog s) first (second ∷ third ∷ []) clock access (does-short (kind_of (at_hand s) s.c s.z) cog s)
     (λ c short. played-one (suc zero) c second (third ∷ []) clock access short
@@ -294,7 +316,8 @@ pub paced : (cog : ℕ) (s next : State) → played (instruction cog s) [] ≡ G
 paced cog s next e = paced-in s.clock (instruction cog s) next (does-paced (kind_of (at_hand s) s.c s.z) cog s) e
 
 -- what a turn leads to is later than it
-pub came : (cog : ℕ) (s : State) (ts : List Turn) (turn : Turn) → Comes (played (instruction cog s) ts) turn → IsFrom (turn.key.clock + 1) (played (instruction cog s) (ts ++ turn ∷ []))
+pub came : (cog : ℕ) (s : State) (ts : List Turn) (turn : Turn) → Comes (played (instruction cog s) ts) turn →
+    IsFrom (turn.key.clock + 1) (played (instruction cog s) (ts ++ turn ∷ []))
 came cog s ts turn comes =
     played-then (instruction cog s) ts turn comes.0 turn.access (does-orderly (kind_of (at_hand s) s.c s.z) cog s) comes.2 comes.1
 
@@ -374,7 +397,8 @@ after-more cog (suc n) o extra moves =
 
 -- ---- the load
 
-loading-not_before : (least : ℕ) (l : Loaded) (n : ℕ) (longs : List ℕ) → length longs + n ≤ 496 → least ≤ l.load + 16 * length longs + 1 → IsNotBefore least (loading l n longs)
+loading-not_before : (least : ℕ) (l : Loaded) (n : ℕ) (longs : List ℕ) → length longs + n ≤ 496 → least ≤ l.load + 16 * length longs + 1 →
+    IsNotBefore least (loading l n longs)
 unfolding loading
 loading-not_before least l zero longs room le = omega (arith, room, le)
 loading-not_before least l (suc n) longs room le = omega (arith, le)
@@ -393,7 +417,8 @@ loading-orderly l (suc n) longs room = λ turn.
 -- ---- a life
 
 -- where a turn comes, it is left for the instruction that has been reached
-pub turn-kept : (k : ℕ) (loaded : Loaded) (ts : List Turn) (turn : Turn) (s : State) (left : List Turn) → replayed k loaded ts ≡ Goes s left → replayed k loaded (ts ++ turn ∷ []) ≡ Goes s (left ++ turn ∷ [])
+pub turn-kept : (k : ℕ) (loaded : Loaded) (ts : List Turn) (turn : Turn) (s : State) (left : List Turn) → replayed k loaded ts ≡ Goes s left →
+    replayed k loaded (ts ++ turn ∷ []) ≡ Goes s (left ++ turn ∷ [])
 turn-kept k loaded ts turn s left reached =
     let moves : Moves (replayed k loaded ts) = subst Moves (sym reached) tt in
     let begun : Moves (loaded_by loaded ts) = after-moves loaded.cog k (loaded_by loaded ts) moves in
@@ -402,24 +427,28 @@ turn-kept k loaded ts turn s left reached =
     ∙ ap (λ (o : Outcome). more o (turn ∷ [])) reached
 
 -- and is taken by that instruction
-pub turn-taken : (k : ℕ) (loaded : Loaded) (ts : List Turn) (turn : Turn) (s : State) (left : List Turn) → replayed k loaded ts ≡ Goes s left → replayed (k + 1) loaded (ts ++ turn ∷ []) ≡ played (instruction loaded.cog s) (left ++ turn ∷ [])
+pub turn-taken : (k : ℕ) (loaded : Loaded) (ts : List Turn) (turn : Turn) (s : State) (left : List Turn) → replayed k loaded ts ≡ Goes s left →
+    replayed (k + 1) loaded (ts ++ turn ∷ []) ≡ played (instruction loaded.cog s) (left ++ turn ∷ [])
 turn-taken k loaded ts turn s left reached =
     after-one loaded.cog k _ ∙ ap (step loaded.cog) (turn-kept k loaded ts turn s left reached)
 
 -- what is asked at all is asked from what has been reached
-asked-from : (loaded : Loaded) (ts : List Turn) (k n clock : ℕ) (access : Access) (o : Outcome) → replayed k loaded ts ≡ o → replayed n loaded ts ≡ Asks clock access → after loaded.cog n o ≡ Asks clock access
+asked-from : (loaded : Loaded) (ts : List Turn) (k n clock : ℕ) (access : Access) (o : Outcome) → replayed k loaded ts ≡ o →
+    replayed n loaded ts ≡ Asks clock access → after loaded.cog n o ≡ Asks clock access
 asked-from loaded ts k n clock access o reached asks =
     ap (after loaded.cog n) (sym reached) ∙ sym (after-plus loaded.cog n k _)
     ∙ ap (λ (count : ℕ). replayed count loaded ts) (add_comm n k)
     ∙ after-plus loaded.cog k n _ ∙ ap (after loaded.cog k) asks ∙ after-asks loaded.cog k clock access
 
 -- and not before it
-pub not-before : (loaded : Loaded) (ts : List Turn) (k : ℕ) (o : Outcome) (until : ℕ) → replayed k loaded ts ≡ o → IsFrom until o → (n clock : ℕ) (access : Access) → replayed n loaded ts ≡ Asks clock access → until ≤ clock
+pub not-before : (loaded : Loaded) (ts : List Turn) (k : ℕ) (o : Outcome) (until : ℕ) → replayed k loaded ts ≡ o → IsFrom until o →
+    (n clock : ℕ) (access : Access) → replayed n loaded ts ≡ Asks clock access → until ≤ clock
 not-before loaded ts k o until reached from n clock access asks =
     subst (IsFrom until) (asked-from loaded ts k n clock access o reached asks) (after-from loaded.cog n until o from)
 
 -- and not before how the load stands
-load-bounds : (loaded : Loaded) (ts : List Turn) (until : ℕ) → IsFrom until (loaded_by loaded ts) → (n clock : ℕ) (access : Access) → replayed n loaded ts ≡ Asks clock access → until ≤ clock
+load-bounds : (loaded : Loaded) (ts : List Turn) (until : ℕ) → IsFrom until (loaded_by loaded ts) → (n clock : ℕ) (access : Access) →
+    replayed n loaded ts ≡ Asks clock access → until ≤ clock
 unfolding after
 load-bounds loaded ts until from n clock access asks =
     not-before loaded ts zero (loaded_by loaded ts) until refl from n clock access asks
@@ -434,7 +463,8 @@ one-asked (SpinBegun entered) ts c d a e one other = absurd one
 -- nothing is asked up to the turn of the Load
 pub asked-first : (b : Begun) (c : ℕ) (a : Access) → IsAsked b [] c a → first_turn_of b < c
 asked-first (PasmBegun loaded) c a asked =
-    let from : IsFrom (loaded.load + 1) (loaded_by loaded []) = played-from (loading loaded 496 []) (loaded.load + 1) (loading-not_before (loaded.load + 1) loaded 496 [] (omega arith) (omega arith)) in
+    let from : IsFrom (loaded.load + 1) (loaded_by loaded []) = played-from (loading loaded 496 []) (loaded.load + 1)
+    (loading-not_before (loaded.load + 1) loaded 496 [] (omega arith) (omega arith)) in
     let le : loaded.load + 1 ≤ c = load-bounds loaded [] (loaded.load + 1) from asked.0 c a asked.1 in
     omega (arith, le)
 asked-first (SpinBegun entered) c a asked = absurd asked
@@ -443,19 +473,23 @@ asked-first (SpinBegun entered) c a asked = absurd asked
 abbrev pub Asker : ℕ → Outcome → ℕ → Access → Type 0
 Asker cog o clock access = (k : ℕ) × (at : State) × (left : List Turn) × (after cog k o ≡ Goes at left) × (played (instruction cog at) left ≡ Asks clock access)
 
-asker-step : (cog n : ℕ) (from : Outcome) (clock : ℕ) (access : Access) (o : Outcome) → (after cog n from ≡ Asks clock access → (from ≡ Asks clock access) ⊎ Asker cog from clock access) → after cog n from ≡ o → step cog o ≡ Asks clock access → (from ≡ Asks clock access) ⊎ Asker cog from clock access
+asker-step : (cog n : ℕ) (from : Outcome) (clock : ℕ) (access : Access) (o : Outcome) →
+    (after cog n from ≡ Asks clock access → (from ≡ Asks clock access) ⊎ Asker cog from clock access) → after cog n from ≡ o →
+    step cog o ≡ Asks clock access → (from ≡ Asks clock access) ⊎ Asker cog from clock access
 asker-step cog n from clock access (Goes at left) before reached asks = inr (n, at, left, reached, asks)
 asker-step cog n from clock access (Asks c a) before reached asks = before (reached ∙ asks)
 asker-step cog n from clock access Ends before reached asks = absurd cc
 
 -- what asks is where a walk begins, or an instruction on the way
-asker : (cog n : ℕ) (from : Outcome) (clock : ℕ) (access : Access) → after cog n from ≡ Asks clock access → (from ≡ Asks clock access) ⊎ Asker cog from clock access
+asker : (cog n : ℕ) (from : Outcome) (clock : ℕ) (access : Access) → after cog n from ≡ Asks clock access →
+    (from ≡ Asks clock access) ⊎ Asker cog from clock access
 unfolding after
 asker cog zero from clock access e = inl e
 asker cog (suc n) from clock access e = asker-step cog n from clock access (after cog n from) (asker cog n from clock access) refl e
 
 -- what is asked after a turn comes later than it
-later-by : (loaded : Loaded) (ts : List Turn) (turn : Turn) (c d : ℕ) (a e : Access) → IsOnTime a c turn.key.clock → (loaded_by loaded ts ≡ Asks c a) ⊎ Asker loaded.cog (loaded_by loaded ts) c a → IsAsked (PasmBegun loaded) (ts ++ turn ∷ []) d e → turn.key.clock + 1 ≤ d
+later-by : (loaded : Loaded) (ts : List Turn) (turn : Turn) (c d : ℕ) (a e : Access) → IsOnTime a c turn.key.clock →
+    (loaded_by loaded ts ≡ Asks c a) ⊎ Asker loaded.cog (loaded_by loaded ts) c a → IsAsked (PasmBegun loaded) (ts ++ turn ∷ []) d e → turn.key.clock + 1 ≤ d
 later-by loaded ts turn c d a e on (inl load) other =
     load-bounds loaded (ts ++ turn ∷ []) (turn.key.clock + 1)
     (played-then (loading loaded 496 []) ts turn c a (loading-orderly loaded 496 [] (omega arith)) on load)
@@ -465,7 +499,8 @@ later-by loaded ts turn c d a e on (inr w) other =
     let orderly = does-orderly (kind_of (at_hand w.1) w.1.c w.1.z) loaded.cog w.1 in
     not-before loaded (ts ++ turn ∷ []) (w.0 + 1) _ (turn.key.clock + 1) taken (played-then _ w.2 turn c a orderly on w.4) other.0 d e other.1
 
-pub asked-later : (b : Begun) (ts : List Turn) (turn : Turn) (c d : ℕ) (a e : Access) → IsAsked b ts c a → IsTurnAt c a turn → IsAsked b (ts ++ turn ∷ []) d e → turn.key.clock < d
+pub asked-later : (b : Begun) (ts : List Turn) (turn : Turn) (c d : ℕ) (a e : Access) → IsAsked b ts c a → IsTurnAt c a turn →
+    IsAsked b (ts ++ turn ∷ []) d e → turn.key.clock < d
 asked-later (PasmBegun loaded) ts turn c d a e one at other =
     let le : turn.key.clock + 1 ≤ d = later-by loaded ts turn c d a e at.1 (asker loaded.cog one.0 (loaded_by loaded ts) c a one.1) other in
     omega (arith, le)

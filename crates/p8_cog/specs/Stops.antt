@@ -19,7 +19,8 @@ use Rattle.p8_cog.specs.declared.progress.Progress.{Progress}
 use Rattle.p8_cog.specs.declared.stage.Stage.{Stage}
 use Rattle.p8_cog.specs.declared.stage.Stage.TheVariants.{Loading, Running, Over}
 use Rattle.p8_cog.specs.Instructions.{kind_of, source_access}
-use Rattle.p8_cog.specs.Replay.{at_hand, destination_value, source_value, hub_request, instruction, played, Outcome, Asks, Goes, Ends, step, after, first_with, BeginsAt}
+use Rattle.p8_cog.specs.Replay.{at_hand, destination_value, source_value, hub_request, instruction, played, Outcome, Asks, Goes, Ends, step, after}
+use Rattle.p8_cog.specs.Replay.{first_with, BeginsAt}
 use Rattle.p8_cog.specs.Standing.{turns_of, running_at, standing_at, clock_of}
 
 -- what the processor computes has an opcode from 8 to 59
@@ -141,7 +142,8 @@ announced_at false cog code stage p = None
 -- what was announced is what comes next
 abbrev pub Announces : (cog code : ℕ) → Stage → Progress → Option (ℕ × Access) → Type 0
 Announces cog code stage p announced =
-    (clock : ℕ) (access : Access) → announced ≡ Some (clock, access) → (step cog (standing_at stage code p) ≡ Asks clock access) × (clock_of p ≤ clock) × (clock + 1 < 2 ^ 62)
+    (clock : ℕ) (access : Access) → announced ≡ Some (clock, access) →
+    (step cog (standing_at stage code p) ≡ Asks clock access) × (clock_of p ≤ clock) × (clock + 1 < 2 ^ 62)
 
 -- what is told is what comes next from here, or nothing comes below this clock; neither is farther than
 -- the next window
@@ -170,7 +172,8 @@ IsTold (More bound) = ⊥
 -- how the value of a read brings a load on: the next long is to be read, or the first instruction begins
 abbrev pub Loads : State → (long : ℕ) → Progress → Stage → Type 0
 Loads old long new Loading =
-    (new.begun.at ≡ old.at + 1) × (new.begun.at < 496) × (new.begun.clock ≡ old.clock + 16) × (new.begun.par ≡ old.par) × (take (old.at + 1) new.begun.registers ≡ take old.at old.registers ++ long ∷ []) × (new.had ≡ Nothing)
+    (new.begun.at ≡ old.at + 1) × (new.begun.at < 496) × (new.begun.clock ≡ old.clock + 16) × (new.begun.par ≡ old.par) ×
+    (take (old.at + 1) new.begun.registers ≡ take old.at old.registers ++ long ∷ []) × (new.had ≡ Nothing)
 Loads old long new Running =
     (old.at ≡ 495) × (new.begun ≡ first_with (take old.at old.registers ++ long ∷ []) old.par (old.clock + 272)) × (new.had ≡ Nothing)
 Loads old long new Over = ⊥
@@ -180,6 +183,7 @@ abbrev pub Takes : (cog : ℕ) → Progress → Turn → Progress → Ending →
 Takes cog old turn new Ended =
     (played (instruction cog old.begun) (turns_of old.had ++ turn ∷ []) ≡ Ends) × (clock_of new ≡ turn.key.clock + 1)
 Takes cog old turn new Whole =
-    (played (instruction cog old.begun) (turns_of old.had ++ turn ∷ []) ≡ running_at new) × (turn.key.clock < clock_of new) × (clock_of new ≤ turn.key.clock + 8)
+    (played (instruction cog old.begun) (turns_of old.had ++ turn ∷ []) ≡ running_at new) × (turn.key.clock < clock_of new) ×
+    (clock_of new ≤ turn.key.clock + 8)
 Takes cog old turn new (Half clock access) =
     (running_at new ≡ Goes old.begun (turns_of old.had ++ turn ∷ [])) × (clock_of new ≡ turn.key.clock)

@@ -86,7 +86,8 @@ impl CogLife {
     /// the bytecode that asks it. `None` where nothing is announced, for the write with which Spin enters its
     /// method, which no bytecode asks, and for PASM.
     pub fn counter(&self) -> Option<u16>
-        ensures counts { (b : Begun) (ts : List Turn) → ⟦<CogLife as Life>⟧.stands self.now b ts → IsAnnouncing (⟦<CogLife as Life>⟧.announced self.now) → IsCounter b ts result }
+        ensures counts { (b : Begun) (ts : List Turn) → ⟦<CogLife as Life>⟧.stands self.now b ts →
+            IsAnnouncing (⟦<CogLife as Life>⟧.announced self.now) → IsCounter b ts result }
         ensures none { ⟦<CogLife as Life>⟧.announced self.now ≡ None → result ≡ None }
     {
         match self.kind {

@@ -6,7 +6,9 @@ ghost use Rattle.p8_cog.specs.Instructions.{source_access};
 ghost use Rattle.p8_cog.specs.declared.ending.Ending.TheVariants.{Half};
 ghost use Rattle.p8_cog.specs.declared.kind.Kind.TheVariants.{Computing, OfHub, Waiting};
 ghost use Rattle.p8_cog.specs.declared.state.State.{State};
-ghost use Rattle.p8_cog.specs.Replay.{at_hand, source_value, destination_value, effect, fetched_before, fetched_after, next_of, computed, compute, register_access, result_access, written_by, answered, ends_after, use_hub, is_port_wait, test_of, wait_effect, wait, halt, does, instruction, hub_request, played, Goes, Asks};
+ghost use Rattle.p8_cog.specs.Replay.{at_hand, source_value, destination_value, effect, fetched_before, fetched_after, next_of, computed, compute};
+ghost use Rattle.p8_cog.specs.Replay.{register_access, result_access, written_by, answered, ends_after, use_hub, is_port_wait, test_of, wait_effect};
+ghost use Rattle.p8_cog.specs.Replay.{wait, halt, does, instruction, hub_request, played, Goes, Asks};
 ghost use Rattle.p8_cog.specs.Stops.{ComesTo, Keeps, IsMadeIn, IsMadeIf, IsAtHub, Comes, is_asking, latest};
 
 use crate::ending::Ending;
@@ -160,7 +162,8 @@ impl State {
     fn jump_unless_zero(&mut self, source: u32, given: &Effect)
         requires at { self.old.at < 512 }
         requires clock { self.old.clock < 2 ^ 62 }
-        ensures ends { self.new ≡ (if given.now.result == 0 then fetched_after self.old given.now (next_of self.old) (self.old.clock + 8) else fetched_before self.old given.now (source % 512) (self.old.clock + 4)) }
+        ensures ends { self.new ≡ (if given.now.result == 0 then fetched_after self.old given.now (next_of self.old)
+            (self.old.clock + 8) else fetched_before self.old given.now (source % 512) (self.old.clock + 4)) }
         ensures at { self.new.at < 512 }
         ensures clock { self.new.clock < 2 ^ 62 + 2 ^ 10 }
     {
@@ -176,7 +179,8 @@ impl State {
     fn jump_if_zero(&mut self, source: u32, given: &Effect)
         requires at { self.old.at < 512 }
         requires clock { self.old.clock < 2 ^ 62 }
-        ensures ends { self.new ≡ (if given.now.result == 0 then fetched_before self.old given.now (source % 512) (self.old.clock + 4) else fetched_after self.old given.now (next_of self.old) (self.old.clock + 8)) }
+        ensures ends { self.new ≡ (if given.now.result == 0 then fetched_before self.old given.now (source % 512)
+            (self.old.clock + 4) else fetched_after self.old given.now (next_of self.old) (self.old.clock + 8)) }
         ensures at { self.new.at < 512 }
         ensures clock { self.new.clock < 2 ^ 62 + 2 ^ 10 }
     {

@@ -1,7 +1,8 @@
 // A cog between two instructions.
 ghost use Rattle.std.specs.Prelude.{ℕ, ◌≡◌, ◌<◌, ◌≤◌, ◌+◌, ◌^◌, ◌++◌, ◌∷◌, [], take, if◌then◌else◌, IfOk, IfErr};
 ghost use Rattle.p8_access.specs.Lives.{IsMade};
-ghost use Rattle.p8_cog.specs.Replay.{at_hand, register_value, source_value, sourced, played, Asks, Course, destination_value, next_of, effect, fetched_before, fetched_after, passed, first_with};
+ghost use Rattle.p8_cog.specs.Replay.{at_hand, register_value, source_value, sourced, played, Asks, Course, destination_value, next_of, effect};
+ghost use Rattle.p8_cog.specs.Replay.{fetched_before, fetched_after, passed, first_with};
 ghost use Rattle.p8_cog.specs.Stops.{left_with, latest};
 
 use crate::hub::value_in;

@@ -11,7 +11,9 @@ use Rattle.p8_commands.specs.declared.table.Subcommand.{Subcommand}
 use Rattle.p8_commands.specs.declared.table.Subcommand.TheVariants as named
 use Rattle.p8_commands.specs.declared.kind.ImageKind.{ImageKind}
 use Rattle.p8_commands.specs.Kinds.{kind_named}
-use Rattle.p8_commands.specs.Numbers.{is_digit, number_of, number_from, range_of, cog_of, refusal_of, most_clocks, most_shown_clocks, most_turns, usual_turns, most_saved_turns, most_page_turns, last_pin, least_bits, most_bits, least_columns, most_columns, usual_columns, most_seed}
+use Rattle.p8_commands.specs.Numbers.{is_digit, number_of, number_from, range_of, cog_of, refusal_of, most_clocks, most_shown_clocks, most_turns}
+use Rattle.p8_commands.specs.Numbers.{usual_turns, most_saved_turns, most_page_turns, last_pin, least_bits, most_bits, least_columns, most_columns}
+use Rattle.p8_commands.specs.Numbers.{usual_columns, most_seed}
 use Rattle.p8_commands.specs.Pins.{mask_of, span_by, span_of}
 use Rattle.p8_commands.specs.Table.{entry_of, app_for, subcommand_named}
 
@@ -29,14 +31,15 @@ pub data Dump : Type 0 where
   RangeOf : ℕ × ℕ → Dump
   Named : (name : List ℕ) → Dump
 
--- A command: to write the image of a source, its listing or its map; to explain why a source is refused, or a refusal by its number; to hint at what is
--- most likely a slip in a source; to run hub memory, or an image or a source; to save the history of a run, or to check one; to read the bytes that stand on a pin of a run, with so many clocks a
--- bit, or to write a pin script that sends the bytes of a file from a clock on; to write the wave of a run, of all that it has or of what changes, or of
--- its pins and locks alone; to draw some pins of a run, by their mask, from one clock on and before another; to show a run for reading, all turns or
--- those of one cog or those that change pins, from one clock on and before another, or none of them, and then what holds in the end, with a dump; to
--- show a run in a browser, from one clock on and before another; to write an image as the other kind of file; to run the made program of a seed; or to
--- tell a command or all of them. A run is made by one thread alone, or by a crew of eight. Where it says whether it is raw, what is run is hub memory where it is, and else an image or a source. Where it says whether
--- it is short, a source has its short code where it is.
+-- A command: to write the image of a source, its listing or its map; to explain why a source is refused, or a refusal by its number; to hint at what
+-- is most likely a slip in a source; to run hub memory, or an image or a source; to save the history of a run, or to check one; to read the bytes
+-- that stand on a pin of a run, with so many clocks a bit, or to write a pin script that sends the bytes of a file from a clock on; to write the wave
+-- of a run, of all that it has or of what changes, or of its pins and locks alone; to draw some pins of a run, by their mask, from one clock on and
+-- before another; to show a run for reading, all turns or those of one cog or those that change pins, from one clock on and before another, or none
+-- of them, and then what holds in the end, with a dump; to show a run in a browser, from one clock on and before another; to write an image as the
+-- other kind of file; to run the made program of a seed; or to tell a command or all of them. A run is made by one thread alone, or by a crew of
+-- eight. Where it says whether it is raw, what is run is hub memory where it is, and else an image or a source. Where it says whether it is short, a
+-- source has its short code where it is.
 pub data Command : Type 0 where
   BuildSource : (short : Bool) (file : List ℕ) → Command
   ListSource : (short : Bool) (file : List ℕ) → Command

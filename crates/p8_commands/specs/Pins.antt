@@ -1,5 +1,6 @@
 -- Which pins and which clocks of a run are shown, in words of the command line (this project's profile). A word is a list of bytes.
-use Rattle.std.specs.Prelude.{ℕ, ◌+◌, ◌-◌, ◌^◌, ◌==◌, nat_le, bit_or, if◌then◌else◌, List, [], ◌∷◌, Option, Some, None, option_and_then, unwrap_or, take, drop, position}
+use Rattle.std.specs.Prelude.{ℕ, ◌+◌, ◌-◌, ◌^◌, ◌==◌, nat_le, bit_or, if◌then◌else◌, List, [], ◌∷◌, Option, Some, None, option_and_then, unwrap_or}
+use Rattle.std.specs.Prelude.{take, drop, position}
 use Rattle.std.specs.List.{slice_split}
 use Rattle.p8_commands.specs.Numbers.{number_of, last_pin}
 

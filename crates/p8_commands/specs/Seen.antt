@@ -10,10 +10,13 @@ use Rattle.p8_commands.specs.declared.command.Command.TheVariants as read
 use Rattle.p8_commands.specs.declared.command.Run.{Run as RunRead}
 use Rattle.p8_commands.specs.declared.command.Dump.{Dump as DumpRead}
 use Rattle.p8_commands.specs.declared.command.Dump.TheVariants as dumped
-use Rattle.p8_commands.specs.Commands.{Command, Dump, RangeOf, Named, Running, BuildSource, ListSource, MapSource, ExplainFile, ExplainNumber, HintSource, RunMemory, RunProgram, Save, Check, Serial, TypeFile, Wave, Plot, ViewRun, PageRun, Convert, Make, Help}
+use Rattle.p8_commands.specs.Commands.{Command, Dump, RangeOf, Named, Running, BuildSource, ListSource, MapSource, ExplainFile, ExplainNumber}
+use Rattle.p8_commands.specs.Commands.{HintSource, RunMemory, RunProgram, Save, Check, Serial, TypeFile, Wave, Plot, ViewRun, PageRun, Convert, Make}
+use Rattle.p8_commands.specs.Commands.{Help}
 use Rattle.p8_commands.specs.Table.{Argument, Entry}
 use Rattle.p8_commands.specs.Naming.{name_of}
-use Rattle.p8_commands.specs.Numbers.{most_clocks, most_shown_clocks, most_turns, most_saved_turns, most_page_turns, last_cog, last_pin, last_refusal, least_bits, most_bits, least_columns, most_columns}
+use Rattle.p8_commands.specs.Numbers.{most_clocks, most_shown_clocks, most_turns, most_saved_turns, most_page_turns, last_cog, last_pin}
+use Rattle.p8_commands.specs.Numbers.{last_refusal, least_bits, most_bits, least_columns, most_columns}
 use Rattle.p8_commands.specs.Ranges.{IsInRam}
 
 abbrev pub argument_of : ArgumentHeld → Argument

@@ -134,7 +134,8 @@ raw_entry = record {
 abbrev pub run_entry : Entry
 run_entry = record {
   word = codes "run";
-  arguments = operand (codes "FILE") (codes "an image where the name ends in .binary or .eeprom, and else a source in Spin") ∷ run_options ++ alone ∷ short ∷ [];
+  arguments = operand (codes "FILE") (codes "an image where the name ends in .binary or .eeprom, and else a source in Spin") ∷ run_options ++ alone ∷
+      short ∷ [];
   about = codes "Runs an image or a source up to a clock, and writes the trace.";
   examples = codes "prop run blink.spin 20000 --dump 0000:16" ∷ codes "prop run blink.binary 200000 --pins button.pins --alone" ∷ [];
 }
@@ -206,15 +207,18 @@ entry_of named.Wave = record {
 }
 entry_of named.Plot = record {
   word = codes "plot";
-  arguments = any_file ∷ shown_run_clocks ∷ shown_pins ∷ shown_clocks ∷ pins ∷ turns ∷ raw ∷ flag (codes "ascii") (codes "draws with characters of ASCII alone") ∷ width ∷ alone ∷ [];
+  arguments = any_file ∷ shown_run_clocks ∷ shown_pins ∷ shown_clocks ∷ pins ∷ turns ∷ raw ∷
+      flag (codes "ascii") (codes "draws with characters of ASCII alone") ∷ width ∷ alone ∷ [];
   about = codes "Runs a file up to a clock, and draws the levels of some pins as text, a line for each pin.";
   examples = codes "prop plot blink.spin 200000 16" ∷ codes "prop plot blink.spin 200000 0,16-23 1000:9000 --ascii --width 60" ∷ [];
 }
 entry_of named.View = record {
   word = codes "view";
   arguments =
-      any_file ∷ shown_run_clocks ∷ pins ∷ turns ∷ flag (codes "alone") (codes "changes nothing: one thread makes all turns in any case") ∷ raw ∷ cog ∷ from ∷ to
-      ∷ flag (codes "pins-only") (codes "shows what changes pins alone") ∷ flag (codes "quiet") (codes "shows no turn, and tells the end alone") ∷ named_dump ∷ [];
+      any_file ∷ shown_run_clocks ∷ pins ∷ turns ∷ flag (codes "alone") (codes "changes nothing: one thread makes all turns in any case") ∷ raw ∷
+      cog ∷ from ∷ to
+      ∷ flag (codes "pins-only") (codes "shows what changes pins alone") ∷ flag (codes "quiet") (codes "shows no turn, and tells the end alone") ∷
+      named_dump ∷ [];
   about = codes "Runs a file up to a clock, and writes its history for reading, with the names and the lines of a source, and what each cog does in the end.";
   examples = codes "prop view blink.spin 20000 --cog 1" ∷ codes "prop view blink.spin 200000 --quiet --dump ser.rx_head" ∷ [];
 }
@@ -246,7 +250,8 @@ entry_of named.Help = record {
 -- all commands, in the order in which they are told
 abbrev pub subcommands : List Subcommand
 subcommands =
-    named.Build ∷ named.List ∷ named.Map ∷ named.Explain ∷ named.Hint ∷ named.Raw ∷ named.Run ∷ named.Save ∷ named.Check ∷ named.Serial ∷ named.TypeFile ∷ named.Wave
+    named.Build ∷ named.List ∷ named.Map ∷ named.Explain ∷ named.Hint ∷ named.Raw ∷ named.Run ∷ named.Save ∷ named.Check ∷ named.Serial ∷
+    named.TypeFile ∷ named.Wave
     ∷ named.Plot ∷ named.View ∷ named.Page ∷ named.Convert ∷ named.Make ∷ named.Help ∷ []
 
 -- the command that a word names

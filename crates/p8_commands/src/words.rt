@@ -3,9 +3,12 @@ ghost use Rattle.std.specs.Prelude.{◌≡◌, ◌≤◌, Some, None, codes, map
 ghost use Rattle.std.specs.Option.{ForSome};
 ghost use Rattle.clap.specs.Matches.{first_value, found_of};
 ghost use Rattle.p8_commands.specs.Commands.{command_of, said_to, meaning_of, run_of, traced_of, saved_of, number_by};
-ghost use Rattle.p8_commands.specs.Commands.{dump_by, is_given as is_given_by, has_flag as has_flag_by, check_of, read_of, shown_of, paged_of, pin_of, bits_of, serial_of, type_of, program_of, columns_by, plot_of, cog_by, dumped_of, shown_by, view_of, page_of, explain_of, seed_of, topic_of, convert_of};
+ghost use Rattle.p8_commands.specs.Commands.{dump_by, is_given as is_given_by, has_flag as has_flag_by, check_of, read_of, shown_of, paged_of};
+ghost use Rattle.p8_commands.specs.Commands.{pin_of, bits_of, serial_of, type_of, program_of, columns_by, plot_of, cog_by, dumped_of, shown_by};
+ghost use Rattle.p8_commands.specs.Commands.{view_of, page_of, explain_of, seed_of, topic_of, convert_of};
 ghost use Rattle.p8_commands.specs.Naming.{name_of};
-ghost use Rattle.p8_commands.specs.Numbers.{most_clocks, most_page_turns, most_saved_turns, most_seed, most_shown_clocks, most_turns, last_cog, last_pin, least_bits, most_bits, least_columns, most_columns};
+ghost use Rattle.p8_commands.specs.Numbers.{most_clocks, most_page_turns, most_saved_turns, most_seed, most_shown_clocks, most_turns, last_cog};
+ghost use Rattle.p8_commands.specs.Numbers.{last_pin, least_bits, most_bits, least_columns, most_columns};
 ghost use Rattle.p8_commands.specs.Ranges.{IsInRam};
 ghost use Rattle.p8_commands.specs.Seen.{command_if_any, dump_if_any, run_if_any, running, IsDumpInRam, IsWithin, HasLimits};
 
@@ -22,7 +25,7 @@ use std::alloc::Global;
 /// The greatest number of clocks of a run that is traced or saved, or of which bytes are read, and the greatest clock at which bytes are sent.
 const MOST_CLOCKS: u64 = 100_000_000;
 
-/// The greatest number of clocks of a run that is shown, as a wave, a picture or a view.
+/// The greatest number of clocks of a run that is shown, as a wave, a picture, a view or a page.
 const MOST_SHOWN_CLOCKS: u64 = 4_000_000_000;
 
 /// The greatest number of turns that may be asked for.

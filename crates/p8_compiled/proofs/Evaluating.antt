@@ -5,7 +5,7 @@ use Rattle.p8_access.specs.Courses.{Finish}
 use Rattle.p8_tree.specs.Expressions.{Tree, node, Number, Str, Strings, Here, Var, Call, Unary, Binary, Assign, Change, Address, ObjectAddress, ObjConst, Built, Look, Variable, Named, Part, Memory, Register, Index, no_index, index, Bits, whole, bits, Item, single, range, Trees, no_trees, ◌▷◌, Items, no_items, ◌▸◌}
 use Rattle.p8_words.specs.Operators.{unary_value, binary_value, or_zero}
 use Rattle.p8_bcog.specs.declared.marks.Mark.{Mark}
-use Rattle.p8_kinds.specs.Values as constants
+use Rattle.p8_fold.specs.Values as constants
 use Rattle.std.proofs.lemmas.Bool.{eqb-true}
 use Rattle.p8_meaning.specs.Doing.{Rest, for_statement}
 use Rattle.p8_meaning.specs.Programs.{object_constant, own_target, kind_of, setting_of}

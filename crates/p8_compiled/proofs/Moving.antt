@@ -13,7 +13,7 @@ use Rattle.p8_bytecode.specs.Table.{rows, operands_of, is_step}
 use Rattle.p8_kinds.specs.declared.name_kinds.NameKind.{NameKind}
 use Rattle.p8_kinds.specs.declared.name_kinds.NameKind.TheVariants as kinds
 use Rattle.p8_words.specs.Operators.{or_zero}
-use Rattle.p8_kinds.specs.Values as constants
+use Rattle.p8_fold.specs.Values as constants
 use Rattle.p8_gen.specs.Names.{Names, widened}
 use Rattle.p8_gen.specs.Methods.{method_code}
 use Rattle.p8_gen.specs.Pieces.{Written, Piece, empty, from_place, nothing, one, ◌⨾◌, from_start, up_to_end, up_to_jumps, byte, text, jump, end_of_jump, jumping, end_of_jumping, of_statement}

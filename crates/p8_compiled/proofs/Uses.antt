@@ -9,9 +9,9 @@ use Rattle.p8_tree.specs.declared.refusal.Refusal.TheVariants.{WrongArity}
 use Rattle.p8_tree.specs.Expressions.{node, ObjConst, Variable, Named, Part, Memory, Register, Trees, no_trees, ◌▷◌}
 use Rattle.p8_tree.specs.Lists.{count_of_trees, tree_list}
 use Rattle.p8_tree.specs.Proper as proper
-use Rattle.p8_kinds.specs.declared.meanings.Meaning.TheVariants as meaning_case
-use Rattle.p8_kinds.specs.Meanings.{given, value_of_meaning, meaning_of}
-use Rattle.p8_kinds.specs.Values.{value, constant_of}
+use Rattle.p8_fold.specs.declared.meanings.Meaning.TheVariants as meaning_case
+use Rattle.p8_fold.specs.Meanings.{given, value_of_meaning, meaning_of}
+use Rattle.p8_fold.specs.Values.{value, constant_of}
 use Rattle.p8_kinds.specs.declared.name_kinds.NameKind.{NameKind}
 use Rattle.p8_kinds.specs.declared.name_kinds.NameKind.TheVariants.{Const, Global, Local, Label, Method, Object}
 use Rattle.p8_kinds.specs.declared.uses.Use.{Use}

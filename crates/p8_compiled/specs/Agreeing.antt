@@ -6,7 +6,7 @@ use Rattle.p8_tree.specs.Names.{result_word}
 use Rattle.p8_tree.specs.Expressions.{Tree}
 use Rattle.p8_tree.specs.Proper.{is_size, IsProperTree}
 use Rattle.p8_words.specs.Operators.{or_zero}
-use Rattle.p8_kinds.specs.Values.{value}
+use Rattle.p8_fold.specs.Values.{value}
 use Rattle.p8_kinds.specs.declared.name_kinds.NameKind.{NameKind}
 use Rattle.p8_kinds.specs.declared.name_kinds.NameKind.TheVariants.{Const, Global, Local, Label, Method, Object}
 use Rattle.p8_kinds.specs.Environments.{Environment}
@@ -33,7 +33,8 @@ pub record Agrees (n : Names) (t : Compiled) : Type 0 where
   pub no_result : t.file.kind t.method result_word ≡ None
   pub sound : (name : List ℕ) (kind : NameKind) → n.kind name ≡ Some kind → IsSound n t name kind
   -- a PUB of an object's file
-  pub publics : (item : ℕ) (method : List ℕ) (number params : ℕ) → n.public item method ≡ Some (Method number params) → (number < 2 ^ 8) × IsObjectMethod t item method params number
+  pub publics : (item : ℕ) (method : List ℕ) (number params : ℕ) → n.public item method ≡ Some (Method number params) →
+      (number < 2 ^ 8) × IsObjectMethod t item method params number
   -- what names mean where a constant is needed
   pub constants : (e : Tree) → value n.constants e ≡ value (setting_of t.file t.method) e
   pub words : (e : Tree) → IsProperTree false e → or_zero (value n.constants e) < 2 ^ 32

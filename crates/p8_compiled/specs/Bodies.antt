@@ -4,7 +4,8 @@ use Rattle.p8_access.specs.Courses.{Course, Finish}
 use Rattle.p8_tree.specs.declared.places.Place.{Place}
 use Rattle.p8_tree.specs.Lists.{count_of_trees}
 use Rattle.p8_tree.specs.Expressions.{Tree, node, Var, Call, Assign, Change, Built, Variable, Named, no_index, Item, single, range, Items, no_items, ◌▸◌}
-use Rattle.p8_tree.specs.Statements.{Course as Loop, Forever, Count, Before, After, From, Statement, statement, Do, If, Case, Repeat, Next, Quit, Return, Abort, arm, Otherwise, nothing_else, otherwise, Statements, no_statements, ◌▹◌, Arms, no_arms, ◌⊳◌}
+use Rattle.p8_tree.specs.Statements.{Course as Loop, Forever, Count, Before, After, From, Statement, statement, Do, If, Case, Repeat, Next, Quit}
+use Rattle.p8_tree.specs.Statements.{Return, Abort, arm, Otherwise, nothing_else, otherwise, Statements, no_statements, ◌▹◌, Arms, no_arms, ◌⊳◌}
 use Rattle.p8_bcog.specs.declared.state.State.{State}
 use Rattle.p8_bcog.specs.declared.step.Wanted.TheVariants as wanted_case
 use Rattle.p8_bcog.specs.Operands.{operand, taken, pushed, tested, is_between, difference}
@@ -12,7 +13,8 @@ use Rattle.p8_bcog.specs.Places as places
 use Rattle.p8_bcog.specs.Calls as calling
 use Rattle.p8_meaning.specs.Values.{holds}
 use Rattle.p8_compiled.specs.Courses.{takes_one, takes_two, takes_three, takes_value, goes_to, goes_if, drops}
-use Rattle.p8_compiled.specs.Standing.{Compiled, on, At, site_of, writes, opens, OwnCallAt, ObjectCallAt, AssignAt, ChangeAt, HasRegister, ValueAt, NamesAt, IndexAt, ValuesAt, BuiltAt}
+use Rattle.p8_compiled.specs.Standing.{Compiled, on, At, site_of, writes, opens, OwnCallAt, ObjectCallAt, AssignAt, ChangeAt, HasRegister, ValueAt}
+use Rattle.p8_compiled.specs.Standing.{NamesAt, IndexAt, ValuesAt, BuiltAt}
 
 -- ---- what the bytecodes of statements do
 
@@ -76,7 +78,8 @@ ActAt t (node place (Var (Named name no_index inside))) p q = (p1 : ℕ) × At t
 ActAt t (node place (Call stops None i name inside arguments)) p q =
     (p1 p2 : ℕ) × At t p (opens true stops) p1 × ValuesAt t arguments p1 p2 × OwnCallAt t (t.file.kind t.method name) (count_of_trees arguments) p2 q
 ActAt t (node place (Call stops (Some object) i name inside arguments)) p q =
-    (p1 p2 p3 : ℕ) × At t p (opens true stops) p1 × ValuesAt t arguments p1 p2 × IndexAt t i p2 p3 × ObjectCallAt t (t.file.kind t.method object) i name (count_of_trees arguments) p3 q
+    (p1 p2 p3 : ℕ) × At t p (opens true stops) p1 × ValuesAt t arguments p1 p2 × IndexAt t i p2 p3 ×
+    ObjectCallAt t (t.file.kind t.method object) i name (count_of_trees arguments) p3 q
 ActAt t (node place (Assign v operator e)) p q = (p1 p2 : ℕ) × ValueAt t e p p1 × NamesAt t v p1 p2 × HasRegister true v × AssignAt t false operator v p2 q
 ActAt t (node place (Change v change)) p q = (p1 : ℕ) × NamesAt t v p p1 × HasRegister true v × ChangeAt t false change v p1 q
 ActAt t (node place (Built code arguments)) p q = BuiltAt t false code arguments p q
@@ -115,7 +118,8 @@ abbrev mutual
   StatementAt t (statement place (Do e)) inner p q = ActAt (on t place) e p q
   StatementAt t (statement place (If arms other)) inner p q = (p1 : ℕ) × ArmsAt t place arms inner q p p1 × OtherAt t other inner p1 q
   StatementAt t (statement place (Case e arms other)) inner p q =
-      (p1 p2 p3 p4 : ℕ) × ValueAt (on t place) e p p1 × ChoicesAt t place arms inner q p1 p2 × At (on t place) p2 (takes_one 0 drops) p3 × OtherAt t other inner p3 p4 × EndAt (on t place) p4 q
+      (p1 p2 p3 p4 : ℕ) × ValueAt (on t place) e p p1 × ChoicesAt t place arms inner q p1 p2 × At (on t place) p2 (takes_one 0 drops) p3 ×
+      OtherAt t other inner p3 p4 × EndAt (on t place) p4 q
   StatementAt t (statement place (Repeat course body)) inner p q = LoopAt (on t place) course (BodyAt t body) p q
   StatementAt t (statement place Next) inner p q = NextAt (on t place) inner p q
   StatementAt t (statement place Quit) inner p q = QuitAt (on t place) inner p q
@@ -136,14 +140,16 @@ abbrev mutual
   pub ArmsAt : Compiled → (place : Place) → Arms → Inner → (end p q : ℕ) → Type 0
   ArmsAt t place no_arms inner end p q = p ≡ q
   ArmsAt t place (arms ⊳ arm (no_items ▸ single e) negated body) inner end p q =
-      (p1 p2 p3 p4 : ℕ) × ArmsAt t place arms inner end p p1 × ValueAt (on t place) e p1 p2 × At (on t place) p2 (takes_one 0 (jumps_unless negated q)) p3 × BodyAt t body inner p3 p4 × EndAt (on t place) p4 end
+      (p1 p2 p3 p4 : ℕ) × ArmsAt t place arms inner end p p1 × ValueAt (on t place) e p1 p2 ×
+      At (on t place) p2 (takes_one 0 (jumps_unless negated q)) p3 × BodyAt t body inner p3 p4 × EndAt (on t place) p4 end
   ArmsAt t place (arms ⊳ last) inner end p q = ⊥
 
   -- the tests of a CASE, and somewhere the bodies of its arms
   pub ChoicesAt : Compiled → (place : Place) → Arms → Inner → (end p q : ℕ) → Type 0
   ChoicesAt t place no_arms inner end p q = p ≡ q
   ChoicesAt t place (arms ⊳ arm items negated body) inner end p q =
-      (p1 a a1 a2 : ℕ) × ChoicesAt t place arms inner end p p1 × FitsAt (on t place) items a p1 q × At (on t place) a (takes_one 0 drops) a1 × BodyAt t body inner a1 a2 × EndAt (on t place) a2 end
+      (p1 a a1 a2 : ℕ) × ChoicesAt t place arms inner end p p1 × FitsAt (on t place) items a p1 q × At (on t place) a (takes_one 0 drops) a1 ×
+      BodyAt t body inner a1 a2 × EndAt (on t place) a2 end
 
 -- a method: its body, and a return, which is made from no statement of the body
 abbrev pub MethodAt : Compiled → Statements → (p : ℕ) → Type 0

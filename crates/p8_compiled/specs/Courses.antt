@@ -13,7 +13,8 @@ use Rattle.p8_meaning.specs.Variables.{Location, Hub, Pins}
 
 -- at p stands a bytecode that does this, and that is made from the statement at hand; q is the place after it
 abbrev pub Does : (memory : List ℕ) (cog : ℕ) (table : List (ℕ × Place)) (hand : Place) (p : ℕ) → (State → Course State) → (q : ℕ) → Type 0
-Does memory cog table hand p course q = (op : Op) × (fetched memory p ≡ Some (op, q)) × ((s : State) → s.at ≡ q → row memory cog op s ≡ course s) × Contains table (p, hand)
+Does memory cog table hand p course q = (op : Op) × (fetched memory p ≡ Some (op, q)) × ((s : State) → s.at ≡ q → row memory cog op s ≡ course s) ×
+    Contains table (p, hand)
 
 abbrev pub goes_to : (p : ℕ) → State → State
 goes_to p s = record s { at = p }

@@ -57,9 +57,13 @@ module _ (memory : List ℕ) (cog : ℕ) (program : Program) (addresses : Addres
   pub record Placed : Type 0 where
     -- from which statements the bytecodes at their addresses are made
     pub table : List (ℕ × Place)
-    pub method : (target : Target) → IsInstance program addresses target.instance → (file : File) → slice_get program target.instance.file ≡ Some file → (tree : MethodTree) → method_of file target.method ≡ Some tree → MethodPlaced table target file tree
-    pub object : (outer : Instance) → IsInstance program addresses outer → (file : File) → slice_get program outer.file ≡ Some file → (method : ℕ) (name : List ℕ) (item position count : ℕ) → file.kind method name ≡ Some (kind_case.Object item position count) →
-        (index : ℕ) → index < count → (child : ℕ) → slice_get file.child_files item ≡ Some child → ObjectPlaced outer (position + index) (instance_at addresses outer child (position + index))
+    pub method : (target : Target) → IsInstance program addresses target.instance → (file : File) →
+        slice_get program target.instance.file ≡ Some file → (tree : MethodTree) → method_of file target.method ≡ Some tree →
+        MethodPlaced table target file tree
+    pub object : (outer : Instance) → IsInstance program addresses outer → (file : File) → slice_get program outer.file ≡ Some file →
+        (method : ℕ) (name : List ℕ) (item position count : ℕ) → file.kind method name ≡ Some (kind_case.Object item position count) →
+        (index : ℕ) → index < count → (child : ℕ) → slice_get file.child_files item ≡ Some child →
+        ObjectPlaced outer (position + index) (instance_at addresses outer child (position + index))
 
 -- ---- what bytecodes tell
 

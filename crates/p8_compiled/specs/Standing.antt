@@ -1,6 +1,7 @@
 -- Where the code of an expression stands: which bytecodes there are from one place to another. It says what each bytecode does, and not
 -- how it is spelled, so that it holds for code of each length and at each place.
-use Rattle.std.specs.Prelude.{ℕ, suc, ◌+◌, ◌-◌, ◌%◌, ◌^◌, ◌==◌, ◌≡◌, ◌<◌, not, nat_le, Bool, true, false, List, [], ◌∷◌, length, slice_get, Option, Some, None, if◌then◌else◌}
+use Rattle.std.specs.Prelude.{ℕ, suc, ◌+◌, ◌-◌, ◌%◌, ◌^◌, ◌==◌, ◌≡◌, ◌<◌, not, nat_le, Bool, true, false, List, [], ◌∷◌, length, slice_get, Option}
+use Rattle.std.specs.Prelude.{Some, None, if◌then◌else◌}
 use Rattle.std.specs.Str.{bytes_eq}
 use Rattle.p8_access.specs.declared.kinds.Width.TheVariants.{Byte, Word, Long}
 use Rattle.p8_access.specs.declared.kinds.Test.TheVariants as test_case
@@ -9,9 +10,11 @@ use Rattle.p8_access.specs.declared.kinds.Access.TheVariants as access_case
 use Rattle.p8_access.specs.Courses.{Course, Finish, Stop}
 use Rattle.p8_tree.specs.declared.places.Place.{Place}
 use Rattle.p8_tree.specs.Names.{result_word}
-use Rattle.p8_tree.specs.Expressions.{Tree, node, Number, Str, Strings, Here, Var, Call, Unary, Binary, Assign, Change, Address, ObjectAddress, ObjConst, Built, Look, Variable, Named, Part, Memory, Register, Index, no_index, index, Bits, whole, bits, Item, single, range, Trees, no_trees, ◌▷◌, Items, no_items, ◌▸◌}
+use Rattle.p8_tree.specs.Expressions.{Tree, node, Number, Str, Strings, Here, Var, Call, Unary, Binary, Assign, Change, Address, ObjectAddress}
+use Rattle.p8_tree.specs.Expressions.{ObjConst, Built, Look, Variable, Named, Part, Memory, Register, Index, no_index, index, Bits, whole, bits}
+use Rattle.p8_tree.specs.Expressions.{Item, single, range, Trees, no_trees, ◌▷◌, Items, no_items, ◌▸◌}
 use Rattle.p8_words.specs.Operators.{unary_value, binary_value, or_zero}
-use Rattle.p8_kinds.specs.Values as constants
+use Rattle.p8_fold.specs.Values as constants
 use Rattle.p8_kinds.specs.declared.name_kinds.NameKind.{NameKind}
 use Rattle.p8_kinds.specs.declared.name_kinds.NameKind.TheVariants as kind_case
 use Rattle.p8_bcog.specs.declared.state.State.{State}
@@ -35,7 +38,8 @@ use Rattle.p8_meaning.specs.Values.{changed, gives_old, is_between, sum_of, diff
 use Rattle.p8_meaning.specs.Expressions.{behind_range, goes_up, first_count}
 use Rattle.p8_meaning.specs.Programs.{Program, Addresses, File, Scope, object_constant, setting_of, method_named, methods_in}
 use Rattle.p8_meaning.specs.Variables.{Location, Pins, element, named, part, address_at}
-use Rattle.p8_compiled.specs.Courses.{Does, gives, takes_none, drops, takes_one, takes_two, takes_three, takes_four, takes_names, takes_value, place_of, leaves_if, if_used, goes_to, WhereSo}
+use Rattle.p8_compiled.specs.Courses.{Does, gives, takes_none, drops, takes_one, takes_two, takes_three, takes_four, takes_names, takes_value}
+use Rattle.p8_compiled.specs.Courses.{place_of, leaves_if, if_used, goes_to, WhereSo}
 
 -- ---- variables
 
@@ -105,8 +109,8 @@ pub record IsOperation (effect : ℕ) (used : Bool) (operator : ℕ) : Type 0 wh
 
 -- ---- the code of a method
 
--- which method, of which file of a project, in which memory; a table of addresses, with the places of the statements from which the bytecodes there are made; and
--- the place of the statement whose code this is
+-- which method, of which file of a project, in which memory; a table of addresses, with the places of the statements from which the bytecodes there
+-- are made; and the place of the statement whose code this is
 pub record Compiled : Type 0 where
   pub memory : List ℕ
   pub cog : ℕ
@@ -176,7 +180,8 @@ abbrev pub ReadAt : Compiled → Variable → (p q : ℕ) → Type 0
 ReadAt t v p q = At t p (takes_names (names_count v) 1 (reads t v)) q
 
 abbrev pub OperateAt : Compiled → (used : Bool) → (operator : ℕ) → Variable → (p q : ℕ) → Type 0
-OperateAt t used operator v p q = (effect : ℕ) × IsOperation effect used operator × At t p (takes_value (names_count v) (leaves_if used) (operates t effect v)) q
+OperateAt t used operator v p q = (effect : ℕ) × IsOperation effect used operator ×
+    At t p (takes_value (names_count v) (leaves_if used) (operates t effect v)) q
 
 abbrev pub AssignAt : Compiled → (used : Bool) → Option ℕ → Variable → (p q : ℕ) → Type 0
 AssignAt t used None v p q = At t p (takes_value (names_count v) (leaves_if used) (writes t used v)) q
@@ -394,7 +399,8 @@ abbrev mutual
   ValueAt t (node place (Call stops None i name inside arguments)) p q =
       (p1 p2 : ℕ) × At t p (opens false stops) p1 × ValuesAt t arguments p1 p2 × OwnCallAt t (t.file.kind t.method name) (count_of_trees arguments) p2 q
   ValueAt t (node place (Call stops (Some object) i name inside arguments)) p q =
-      (p1 p2 p3 : ℕ) × At t p (opens false stops) p1 × ValuesAt t arguments p1 p2 × IndexAt t i p2 p3 × ObjectCallAt t (t.file.kind t.method object) i name (count_of_trees arguments) p3 q
+      (p1 p2 p3 : ℕ) × At t p (opens false stops) p1 × ValuesAt t arguments p1 p2 × IndexAt t i p2 p3 ×
+      ObjectCallAt t (t.file.kind t.method object) i name (count_of_trees arguments) p3 q
   -- the sign `+` is EC, and has no code
   ValueAt t (node place (Unary operator e)) p q =
       WhereSo (operator == 0xEC) (ValueAt t e p q) ((p1 : ℕ) × ValueAt t e p p1 × At t p1 (takes_one 1 (applies_one operator)) q)
@@ -452,7 +458,8 @@ abbrev mutual
   pub BuiltAt : Compiled → (used : Bool) → (code : ℕ) → Trees → (p q : ℕ) → Type 0
   BuiltAt t used code no_trees p q = NoneAt t used code p q
   BuiltAt t used code (no_trees ▷ e) p q =
-      WhereSo (code == 0) (Alone (not used) (At t p (gives (or_zero (constants.value (setting_of t.file t.method) e))) q)) ((p1 : ℕ) × ValueAt t e p p1 × OneAt t used code p1 q)
+      WhereSo (code == 0) (Alone (not used) (At t p (gives (or_zero (constants.value (setting_of t.file t.method) e))) q))
+      ((p1 : ℕ) × ValueAt t e p p1 × OneAt t used code p1 q)
   BuiltAt t used code (no_trees ▷ e ▷ f) p q =
       WhereSo (code == 0x2C) ((p1 : ℕ) × At t p (gives new_cog) p1 × BeginsAt t used e (ValueAt t e) (ValueAt t f) p1 q)
       ((p1 p2 : ℕ) × ValueAt t e p p1 × ValueAt t f p1 p2 × TwoAt t used code p2 q)

@@ -40,7 +40,8 @@ SpinIsTold program addresses w past =
 -- each method's frame has less than 65,536 bytes after its result
 abbrev pub FramesFit : Program → Type 0
 FramesFit program =
-    (number : ℕ) (file : File) → slice_get program number ≡ Some file → (method : ℕ) (tree : MethodTree) → method_of file method ≡ Some tree → frame_size file tree < 2 ^ 16
+    (number : ℕ) (file : File) → slice_get program number ≡ Some file → (method : ℕ) (tree : MethodTree) → method_of file method ≡ Some tree →
+    frame_size file tree < 2 ^ 16
 
 -- a world whose memory has the methods of a project, and whose first cog begins with one of them
 pub record IsWorldOf (program : Program) (addresses : Addresses) (w : World) : Type 0 where

@@ -19,7 +19,9 @@ ghost use Rattle.p8_compiled.specs.Moving.{AreSameWays};
 /// The statements are those of a source that was read, with each NEXT and each QUIT in a loop, and no name of theirs is used
 /// against its kind. The names of the code generator agree with those of the project and its image.
 pub fn templates_stand()
-    ensures { (n : Names) → (t : Compiled) → (base : ℕ) → Agrees n t → (ss : Statements) → AreProperStatements ss → IsTrue (leave_loops false ss) → ((f : Fault) → ¬ MisuseInStatements (environment n) ss f) → HasCode t.memory base (method_code n ss) → HasLines t.table base (method_code n ss).lines → MethodAt (on t n.statement) ss base }
+    ensures { (n : Names) → (t : Compiled) → (base : ℕ) → Agrees n t → (ss : Statements) → AreProperStatements ss → IsTrue (leave_loops false ss) →
+        ((f : Fault) → ¬ MisuseInStatements (environment n) ss f) → HasCode t.memory base (method_code n ss) →
+        HasLines t.table base (method_code n ss).lines → MethodAt (on t n.statement) ss base }
 {}
 
 /// Law: the code of a method ends where its bytes do.
@@ -30,7 +32,8 @@ pub fn code_ends_where_its_bytes_do()
 /// Law: the bytecodes of a method's code are such as there are, so that each can be written and read back, where the code has at most
 /// 32,768 bytes and no jump of it goes too far.
 pub fn templates_have_operations()
-    ensures { (n : Names) → (t : Compiled) → Agrees n t → (ss : Statements) → AreProperStatements ss → IsTrue (leave_loops false ss) → ((f : Fault) → ¬ MisuseInStatements (environment n) ss f) → IsNear (method_code n ss) → AreOps (method_code n ss).ops }
+    ensures { (n : Names) → (t : Compiled) → Agrees n t → (ss : Statements) → AreProperStatements ss → IsTrue (leave_loops false ss) →
+        ((f : Fault) → ¬ MisuseInStatements (environment n) ss f) → IsNear (method_code n ss) → AreOps (method_code n ss).ops }
 {}
 
 /// Law: which bytes, beside those of offsets, and which jumps stand before a place of a method's code doesn't depend on the choice of wide

@@ -20,12 +20,18 @@ ghost use Rattle.p8_compiled.specs.Told.{IsWorldOf, SpinIsTold};
 /// history, are the accesses that the method makes, in order, of the answers that they got: whatever the other cogs do, whatever code of
 /// Propeller Assembly runs, and whatever is written to the memory.
 pub fn lives_are_told()
-    ensures legal { (program : Program) → (addresses : Addresses) → (w : World) → IsWorldOf program addresses w → (past : List Turn) → Legal asks w past → SpinIsTold program addresses w past }
-    ensures ended { (program : Program) → (addresses : Addresses) → (w : World) → IsWorldOf program addresses w → (past : List Turn) → Ended asks w past → SpinIsTold program addresses w past }
+    ensures legal { (program : Program) → (addresses : Addresses) → (w : World) → IsWorldOf program addresses w → (past : List Turn) →
+        Legal asks w past → SpinIsTold program addresses w past }
+    ensures ended { (program : Program) → (addresses : Addresses) → (w : World) → IsWorldOf program addresses w → (past : List Turn) →
+        Ended asks w past → SpinIsTold program addresses w past }
 {}
 
 /// Law: in such a history each turn of a cog that runs Spin comes after fewer bytecodes than the limit of clocks, since a bytecode takes 32 clocks or more.
 /// And its life began with the memory of the world.
 pub fn turns_come_after_few_bytecodes()
-    ensures { (program : Program) → (addresses : Addresses) → (w : World) → IsWorldOf program addresses w → (turn : Turn) → (past : List Turn) → Legal asks w (turn ∷ past) → (origin : Origin) → cog_state w past turn.key.cog ≡ Running origin → (entered : Entered) → begun w past turn.key.cog ≡ Some (SpinBegun entered) → (entered.memory ≡ w.memory) × ((done : ℕ) → (s : State) → (begin : ℕ) → (left : List Turn) → lived done entered (since_begin past turn.key.cog) ≡ Goes s begin left → done < w.clocks) }
+    ensures { (program : Program) → (addresses : Addresses) → (w : World) → IsWorldOf program addresses w → (turn : Turn) → (past : List Turn) →
+        Legal asks w (turn ∷ past) → (origin : Origin) → cog_state w past turn.key.cog ≡ Running origin → (entered : Entered) →
+        begun w past turn.key.cog ≡ Some (SpinBegun entered) →
+        (entered.memory ≡ w.memory) × ((done : ℕ) → (s : State) → (begin : ℕ) → (left : List Turn) →
+        lived done entered (since_begin past turn.key.cog) ≡ Goes s begin left → done < w.clocks) }
 {}

@@ -1,8 +1,8 @@
 -- One term more at the end of a sum.
 use Rattle.std.proofs.Common.{◌≡◌, ℕ, ◌+◌, ◌%◌, ◌^◌, List, [], ◌∷◌, ◌++◌, subst, arith}
 use Rattle.p8_constants.specs.Items.{Term}
-use Rattle.p8_kinds.specs.Meanings.{Setting}
-use Rattle.p8_kinds.specs.Values.{value}
+use Rattle.p8_fold.specs.Meanings.{Setting}
+use Rattle.p8_fold.specs.Values.{value}
 use Rattle.p8_constants.specs.Constants.{Scope, IsRightFor, Adds, none, further, counted}
 
 moved : (a w v : ℕ) → (a + (w + v) % 2 ^ 32) % 2 ^ 32 ≡ ((a + w) % 2 ^ 32 + v) % 2 ^ 32

@@ -7,8 +7,8 @@ use Rattle.p8_tree.specs.Expressions.{Tree, node, Number, Var, Binary, Named, no
 use Rattle.p8_tree.specs.Sources.{Constant, Source, Con}
 use Rattle.p8_tree.specs.Faults.{fault}
 use Rattle.p8_tree.specs.declared.refusal.Refusal.TheVariants.{NotConstant, ZeroDivisor}
-use Rattle.p8_kinds.specs.declared.meanings.Meaning.TheVariants as meaning_case
-use Rattle.p8_kinds.specs.Meanings.{Setting}
+use Rattle.p8_fold.specs.declared.meanings.Meaning.TheVariants as meaning_case
+use Rattle.p8_fold.specs.Meanings.{Setting}
 use Rattle.p8_constants.specs.Constants.{scope_of, Needs, itself, through, Means, circular, constant, IsRightFor, right, none, further, Has, has, IsConstantFault}
 use Rattle.p8_constants.specs.Items.{Term, Sum, value_term}
 use Rattle.p8_constants.specs.Mentions.{Mentions}

@@ -7,8 +7,8 @@ use Rattle.p8_tree.specs.Sources.{Source}
 use Rattle.p8_tree.specs.declared.faults.Fault.{Fault}
 use Rattle.p8_tree.specs.Faults.{IsFirstFault}
 use Rattle.p8_tree.proofs.Firsts.{IsFirstFault-along}
-use Rattle.p8_kinds.specs.declared.meanings.Meaning.TheVariants.{Value}
-use Rattle.p8_kinds.specs.Meanings.{Setting}
+use Rattle.p8_fold.specs.declared.meanings.Meaning.TheVariants.{Value}
+use Rattle.p8_fold.specs.Meanings.{Setting}
 use Rattle.p8_constants.specs.Items.{definition, definitions}
 use Rattle.p8_constants.specs.Constants.{Scope, scope_of, Has, IsConstant, IsConstantFault}
 use Rattle.p8_constants.specs.Rows.{Row, rows_of, row_at, first_named, constant_at, node_of, IsPlan, IsBefore, IsFaultBefore, IsEvaluated, IsEntered, IsSized}

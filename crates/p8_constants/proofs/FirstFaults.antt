@@ -5,7 +5,7 @@ use Rattle.p8_tree.specs.declared.faults.Fault.{Fault}
 use Rattle.p8_tree.specs.Faults.{FaultBefore, IsFirstFault, earlier, comes_before, first_of_two}
 use Rattle.std.proofs.lemmas.Bool.{cases_Bool}
 use Rattle.std.specs.Prelude.{if◌then◌else◌, IsTrue, ◌↔◌}
-use Rattle.p8_kinds.specs.Values.{where_so}
+use Rattle.p8_fold.specs.Values.{where_so}
 use Rattle.p8_constants.specs.Standing.{IsFirstOf}
 
 -- a fault isn't before what was found

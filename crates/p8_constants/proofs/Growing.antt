@@ -11,8 +11,8 @@ use Rattle.std.proofs.lemmas.List.{length_push, get_or_append_left, get_or_push,
 use Rattle.p8_tree.specs.declared.sources.ConItem.{ConItem}
 use Rattle.std.proofs.lemmas.List.Elements.{Contains-push_cases, filter_map-append}
 use Rattle.p8_tree.specs.Expressions.{Tree}
-use Rattle.p8_kinds.specs.declared.meanings.Meaning.{Meaning}
-use Rattle.p8_kinds.specs.Meanings.{Setting}
+use Rattle.p8_fold.specs.declared.meanings.Meaning.{Meaning}
+use Rattle.p8_fold.specs.Meanings.{Setting}
 use Rattle.p8_constants.specs.Graphs.{HasItsTargets}
 use Rattle.p8_constants.proofs.Numbers.{edge_within}
 use Rattle.p8_constants.specs.declared.rows.Move.{Move}

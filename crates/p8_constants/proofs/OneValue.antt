@@ -1,11 +1,11 @@
 -- A constant has one value: by induction on how it comes to it.
 use Rattle.std.proofs.Common.{◌≡◌, ℕ, ◌+◌, ◌%◌, ◌^◌, List, Option, Some, None, refl, sym, ap, ◌∙◌, subst}
-use Rattle.p8_kinds.specs.declared.meanings.Meaning.{Meaning}
-use Rattle.p8_kinds.specs.declared.meanings.Meaning.TheVariants as meaning_case
-use Rattle.p8_kinds.specs.Meanings.{Setting}
-use Rattle.p8_kinds.specs.Values.{value}
-use Rattle.p8_kinds.specs.Agreement.{AgreeOn}
-use Rattle.p8_kinds.proofs.Agreeing.{value_same}
+use Rattle.p8_fold.specs.declared.meanings.Meaning.{Meaning}
+use Rattle.p8_fold.specs.declared.meanings.Meaning.TheVariants as meaning_case
+use Rattle.p8_fold.specs.Meanings.{Setting}
+use Rattle.p8_fold.specs.Values.{value}
+use Rattle.p8_fold.specs.Agreement.{AgreeOn}
+use Rattle.p8_fold.proofs.Agreeing.{value_same}
 use Rattle.p8_constants.specs.Items.{Term, Sum, definition}
 use Rattle.p8_constants.specs.Constants.{Scope, Needs, itself, through, Means, from_outside, nothing, circular, constant, IsRightFor, right, Adds, none, further, Has, has, counted}
 use Rattle.p8_constants.proofs.Agreeing.{agree}

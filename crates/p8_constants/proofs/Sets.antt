@@ -6,8 +6,8 @@ use Rattle.std.proofs.lemmas.Slice.Eq.{bytes_eq-Decides}
 use Rattle.std.specs.Prelude.{Contains, IsTrue, is_some, ◌↔◌}
 use Rattle.std.specs.Str.{bytes_eq}
 use Rattle.std.specs.BTreeMap.{BTreeMap}
-use Rattle.p8_kinds.specs.ConstantEntries.{at_bytes}
-use Rattle.p8_kinds.proofs.Bytes.{Key}
+use Rattle.p8_fold.specs.ConstantEntries.{at_bytes}
+use Rattle.p8_fold.proofs.Bytes.{Key}
 
 one_name : (n m : List ℕ) → Contains (n ∷ []) m → m ≡ n
 one_name n m (k, lt, is) = let first : k ≡ 0 = omega arith in sym (rw first at is)

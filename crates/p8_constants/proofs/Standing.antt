@@ -4,7 +4,7 @@ use Rattle.std.specs.Prelude.{Contains}
 use Rattle.std.proofs.Math.Logic.{⊎_elim}
 use Rattle.std.proofs.lemmas.List.Elements.{Contains-append_left, Contains-append_right, Contains-append_cases}
 use Rattle.p8_tree.specs.Expressions.{Tree, node, Form, Number, Str, Strings, Here, Var, Call, Unary, Binary, Assign, Change, Address, ObjectAddress, ObjConst, Built, Look, Variable, Named, Part, Memory, Register, Index, no_index, index, Bits, whole, bits, Item, single, range, Trees, no_trees, ◌▷◌, Items, no_items, ◌▸◌}
-use Rattle.p8_kinds.proofs.Judging.{to_right, to_left}
+use Rattle.p8_fold.proofs.Judging.{to_right, to_left}
 use Rattle.p8_constants.specs.Mentions.{Mentions, FormMentions, VariableMentions, IndexMentions, BitsMention, ItemMentions, TreesMention, ItemsMention, called_name, mentioned, form_mentioned, variable_mentioned, index_mentioned, bits_mentioned, item_mentioned, trees_mentioned, items_mentioned}
 
 -- n is in a list exactly where P holds

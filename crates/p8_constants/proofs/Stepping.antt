@@ -8,9 +8,9 @@ use Rattle.p8_tree.specs.Expressions.{Tree}
 use Rattle.p8_tree.specs.Sources.{Source}
 use Rattle.p8_tree.specs.declared.faults.Fault.{Fault}
 use Rattle.p8_tree.specs.Faults.{IsFirstFault}
-use Rattle.p8_kinds.specs.declared.meanings.Meaning.TheVariants.{Value}
-use Rattle.p8_kinds.specs.Meanings.{Setting}
-use Rattle.p8_kinds.specs.Values.{value}
+use Rattle.p8_fold.specs.declared.meanings.Meaning.TheVariants.{Value}
+use Rattle.p8_fold.specs.Meanings.{Setting}
+use Rattle.p8_fold.specs.Values.{value}
 use Rattle.p8_constants.specs.Items.{Term, definition, definitions}
 use Rattle.p8_constants.specs.Mentions.{mentioned}
 use Rattle.p8_constants.specs.Constants.{scope_of, Has, IsConstant, IsConstantFault, counted}

@@ -7,10 +7,10 @@
 use Rattle.std.specs.Prelude.{◌≡◌, ℕ, ◌+◌, ◌%◌, ◌^◌, List, [], ◌∷◌, ◌<◌, ◌≤◌, Option, Some, None, IsSome, Contains}
 use Rattle.p8_tree.specs.Sources.{Source}
 use Rattle.p8_tree.specs.declared.faults.Fault.{Fault}
-use Rattle.p8_kinds.specs.declared.meanings.Meaning.{Meaning}
-use Rattle.p8_kinds.specs.declared.meanings.Meaning.TheVariants as meaning_case
-use Rattle.p8_kinds.specs.Meanings.{Setting}
-use Rattle.p8_kinds.specs.Values.{value, FaultIn}
+use Rattle.p8_fold.specs.declared.meanings.Meaning.{Meaning}
+use Rattle.p8_fold.specs.declared.meanings.Meaning.TheVariants as meaning_case
+use Rattle.p8_fold.specs.Meanings.{Setting}
+use Rattle.p8_fold.specs.Values.{value, FaultIn}
 use Rattle.p8_constants.specs.Items.{Term, Sum, definitions, definition, expressions}
 use Rattle.p8_constants.specs.Mentions.{Mentions}
 
@@ -42,12 +42,14 @@ mutual
 
   -- a setting that is right for an expression: it gives each name that stands there what it means there
   pub data IsRightFor : Scope → Term → Setting → Type 0 where
-    right : {c : Scope} {e : Term} {s : Setting} → ((n : List ℕ) → Mentions e.tree n → Means c e n (s.name n)) → ((object name : List ℕ) → s.constant object name ≡ c.outside.constant object name) → s.here ≡ c.outside.here → IsRightFor c e s
+    right : {c : Scope} {e : Term} {s : Setting} → ((n : List ℕ) → Mentions e.tree n → Means c e n (s.name n)) →
+        ((object name : List ℕ) → s.constant object name ≡ c.outside.constant object name) → s.here ≡ c.outside.here → IsRightFor c e s
 
   -- the sum of expressions, each with its value, or 0 where it is refused
   pub data Adds : Scope → List Term → ℕ → Type 0 where
     none : {c : Scope} → Adds c [] 0
-    further : {c : Scope} {e : Term} {es : List Term} {s : Setting} {w : ℕ} → IsRightFor c e s → Adds c es w → Adds c (e ∷ es) ((counted (value s e.tree) + w) % 2 ^ 32)
+    further : {c : Scope} {e : Term} {es : List Term} {s : Setting} {w : ℕ} → IsRightFor c e s → Adds c es w →
+        Adds c (e ∷ es) ((counted (value s e.tree) + w) % 2 ^ 32)
 
   -- a constant of the file has this value
   pub data Has : Scope → List ℕ → ℕ → Type 0 where
@@ -67,9 +69,11 @@ IsConstant c n = (c.outside.name n ≡ None) × IsSome (definition c.constants n
 
 -- names with ranks, each of which needs only names of lower ranks, as they come in an order of evaluation
 pub record IsOrdered (c : Scope) (Among : List ℕ → Type 0) (rank : List ℕ → ℕ) : Type 0 where
-  pub lower : (n m : List ℕ) (sum : Sum) (e : Term) → Among n → definition c.constants n ≡ Some sum → Contains sum.terms e → Mentions e.tree m → IsConstant c m → Among m × (rank m < rank n)
+  pub lower : (n m : List ℕ) (sum : Sum) (e : Term) → Among n → definition c.constants n ≡ Some sum → Contains sum.terms e → Mentions e.tree m →
+      IsConstant c m → Among m × (rank m < rank n)
 
 -- expressions in layers: what an expression of one layer mentions has its terms in that layer or in lower ones. Expressions
 -- that need each other stand in one layer
 pub record IsLayered (c : Scope) (Among : Term → Type 0) (layer : Term → ℕ) : Type 0 where
-  pub lower : (e f : Term) (m : List ℕ) (sum : Sum) → Among e → Mentions e.tree m → c.outside.name m ≡ None → definition c.constants m ≡ Some sum → Contains sum.terms f → Among f × (layer f ≤ layer e)
+  pub lower : (e f : Term) (m : List ℕ) (sum : Sum) → Among e → Mentions e.tree m → c.outside.name m ≡ None → definition c.constants m ≡ Some sum →
+      Contains sum.terms f → Among f × (layer f ≤ layer e)

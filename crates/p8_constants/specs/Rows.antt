@@ -1,5 +1,6 @@
 -- The items of all blocks of CON in one row, and what depends on what among them.
-use Rattle.std.specs.Prelude.{◌≡◌, ◌↔◌, ◌<◌, ◌≤◌, ℕ, zero, suc, ◌+◌, ◌*◌, ◌%◌, ◌^◌, Bool, true, false, nat_lt, if◌then◌else◌, List, [], ◌∷◌, ◌++◌, length, map, slice_index, slice_index_or, Contains, Option, Some, None, IsSome, MatchOption, is_some, option_map}
+use Rattle.std.specs.Prelude.{◌≡◌, ◌↔◌, ◌<◌, ◌≤◌, ℕ, zero, suc, ◌+◌, ◌*◌, ◌%◌, ◌^◌, Bool, true, false, nat_lt, if◌then◌else◌, List, [], ◌∷◌, ◌++◌}
+use Rattle.std.specs.Prelude.{length, map, slice_index, slice_index_or, Contains, Option, Some, None, IsSome, MatchOption, is_some, option_map}
 use Rattle.std.specs.List.{filter_map}
 use Rattle.std.specs.Str.{bytes_eq}
 use Rattle.p8_tree.specs.declared.sources.ConItem.{ConItem}
@@ -10,10 +11,10 @@ use Rattle.p8_constants.specs.Graphs.{IsEdge, Reaches}
 use Rattle.p8_constants.specs.Orders.{ComesNoLater}
 use Rattle.p8_tree.specs.declared.faults.Fault.{Fault}
 use Rattle.p8_tree.specs.Faults.{earlier, IsFirstFault}
-use Rattle.p8_kinds.specs.declared.meanings.Meaning.{Meaning}
-use Rattle.p8_kinds.specs.declared.meanings.Meaning.TheVariants.{Value, Other}
-use Rattle.p8_kinds.specs.Meanings.{Setting}
-use Rattle.p8_kinds.specs.Values.{value, FaultIn}
+use Rattle.p8_fold.specs.declared.meanings.Meaning.{Meaning}
+use Rattle.p8_fold.specs.declared.meanings.Meaning.TheVariants.{Value, Other}
+use Rattle.p8_fold.specs.Meanings.{Setting}
+use Rattle.p8_fold.specs.Values.{value, FaultIn}
 use Rattle.p8_constants.specs.declared.rows.Move.{Move}
 use Rattle.p8_constants.specs.declared.rows.Move.TheVariants.{Sets, Stays, Counts, Steps}
 use Rattle.p8_constants.specs.Items.{Term, Sum, zero_sum, after}
@@ -163,7 +164,8 @@ pub record IsPlan (outside : Setting) (rows : List Row) (index : List ℕ → Op
 
 -- what a constant whose node is this one means in the expression of a node: a value that was found, where its component is a lower one
 abbrev pub meaning_in : List ℕ → List ℕ → ℕ → ℕ → Meaning
-meaning_in numbers values node constant = if nat_lt (slice_index numbers constant) (slice_index numbers node) then Value (slice_index values constant) else Other
+meaning_in numbers values node constant = if nat_lt (slice_index numbers constant) (slice_index numbers node) then Value
+    (slice_index values constant) else Other
 
 -- the value of a counter as it comes to the item k
 abbrev pub moved : ℕ → List ℕ → ℕ → Move → ℕ
@@ -194,8 +196,10 @@ pub data Joins (s : Setting) (e : Tree) (old new : Option Fault) : Type 0 where
 
 -- the value of a node: of its expression, by what the names mean there, or of its counter
 pub record IsValue (c : Scope) (rows : List Row) (values : List ℕ) (node : ℕ) : Type 0 where
-  pub expression : (t : Term) → expression_at rows t.number ≡ Some t.tree → t.number ≡ node → (s : Setting) × IsRightFor c t s × (slice_index values node ≡ counted (value s t.tree)) × (slice_index values node < 2 ^ 32)
-  pub counter : (k : ℕ) → k < length rows → node ≡ 2 * length rows + k → (w : ℕ) × Adds c (counter_at rows k).terms w × (slice_index values node ≡ ((counter_at rows k).whole + w) % 2 ^ 32)
+  pub expression : (t : Term) → expression_at rows t.number ≡ Some t.tree → t.number ≡ node →
+      (s : Setting) × IsRightFor c t s × (slice_index values node ≡ counted (value s t.tree)) × (slice_index values node < 2 ^ 32)
+  pub counter : (k : ℕ) → k < length rows → node ≡ 2 * length rows + k →
+      (w : ℕ) × Adds c (counter_at rows k).terms w × (slice_index values node ≡ ((counter_at rows k).whole + w) % 2 ^ 32)
 
 -- a node that stands before a place in the order
 abbrev pub IsBefore : List ℕ → ℕ → ℕ → Type 0
@@ -251,7 +255,8 @@ pub record IsNameEntered (index : List ℕ → Option ℕ) (name : Option (List 
 
 -- a table in which the names of the first items have their values
 pub record IsEntered (index : List ℕ → Option ℕ) (rows : List Row) (values : List ℕ) (count : ℕ) (old new : Setting) : Type 0 where
-  pub entered : (j : ℕ) (n : List ℕ) (k : ℕ) → j < count → (row_at rows j).item.name ≡ Some n → index n ≡ Some k → new.name n ≡ Some (Value (slice_index values k))
+  pub entered : (j : ℕ) (n : List ℕ) (k : ℕ) → j < count → (row_at rows j).item.name ≡ Some n → index n ≡ Some k →
+      new.name n ≡ Some (Value (slice_index values k))
   pub unknown : (n : List ℕ) → index n ≡ None → new.name n ≡ old.name n
   pub constants : (object n : List ℕ) → new.constant object n ≡ old.constant object n
   pub here : new.here ≡ old.here

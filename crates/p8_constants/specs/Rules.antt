@@ -5,8 +5,8 @@ use Rattle.p8_tree.specs.Expressions.{Tree}
 use Rattle.p8_tree.specs.declared.faults.Fault.{Fault}
 use Rattle.p8_tree.specs.Faults.{fault}
 use Rattle.p8_tree.specs.declared.refusal.Refusal.TheVariants.{WrongArity, NoPub, TooManyObjects}
-use Rattle.p8_kinds.specs.Meanings.{Setting}
-use Rattle.p8_kinds.specs.Values.{value, FaultIn, is_zero}
+use Rattle.p8_fold.specs.Meanings.{Setting}
+use Rattle.p8_fold.specs.Values.{value, FaultIn, is_zero}
 use Rattle.p8_constants.specs.Constants.{counted}
 use Rattle.p8_constants.specs.FileItems.{Item, variable, object, method}
 

@@ -46,9 +46,12 @@ pub record IsSearch (g : List (List ℕ)) (Held : ℕ → Type 0) (marks : List 
   pub within : (k : ℕ) → k < length bs → ((boundary_at bs k).node < length nodes) × ((boundary_at bs k).target ≤ length targets)
   pub rising : (k l : ℕ) → k < l → l < length bs → ((boundary_at bs k).node < (boundary_at bs l).node) × ((boundary_at bs k).target ≤ (boundary_at bs l).target)
   pub chain : (i j : ℕ) → i ≤ j → j < length nodes → Reaches g (node_at nodes i) (node_at nodes j)
-  pub back : (k j : ℕ) → k < length bs → (boundary_at bs k).node ≤ j → j < length nodes → ((l : ℕ) → k < l → l < length bs → j < (boundary_at bs l).node) → Reaches g (node_at nodes j) (node_at nodes (boundary_at bs k).node)
-  pub pending : (k x : ℕ) → k < length bs → (boundary_at bs k).target ≤ x → x < length targets → Reaches g (node_at nodes (boundary_at bs k).node) (node_at targets x)
-  pub seen : (k j b : ℕ) → k < length bs → (boundary_at bs k).node ≤ j → j < length nodes → IsEdge g (node_at nodes j) b → IsSeen Held marks nodes targets (boundary_at bs k) b
+  pub back : (k j : ℕ) → k < length bs → (boundary_at bs k).node ≤ j → j < length nodes →
+      ((l : ℕ) → k < l → l < length bs → j < (boundary_at bs l).node) → Reaches g (node_at nodes j) (node_at nodes (boundary_at bs k).node)
+  pub pending : (k x : ℕ) → k < length bs → (boundary_at bs k).target ≤ x → x < length targets →
+      Reaches g (node_at nodes (boundary_at bs k).node) (node_at targets x)
+  pub seen : (k j b : ℕ) → k < length bs → (boundary_at bs k).node ≤ j → j < length nodes → IsEdge g (node_at nodes j) b →
+      IsSeen Held marks nodes targets (boundary_at bs k) b
   pub falls : (a b n : ℕ) → mark marks a ≡ Done n → IsEdge g a b → (m : ℕ) × (mark marks b ≡ Done m) × (m ≤ n)
   pub numbered : (a n : ℕ) → mark marks a ≡ Done n → n < count
   pub same : (a b n : ℕ) → mark marks a ≡ Done n → mark marks b ≡ Done n → Reaches g a b

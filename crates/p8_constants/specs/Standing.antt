@@ -3,7 +3,7 @@ use Rattle.std.specs.Prelude.{◌≡◌, ◌⊎◌, ◌≤◌, ℕ, List, map, O
 use Rattle.p8_tree.specs.Views.{constant_of, declared_of, child_of, method_of, line_of}
 use Rattle.p8_tree.specs.declared.faults.Fault.{Fault}
 use Rattle.p8_tree.specs.Faults.{IsFirstFault}
-use Rattle.p8_kinds.specs.ConstantEntries.{at_bytes}
+use Rattle.p8_fold.specs.ConstantEntries.{at_bytes}
 use Rattle.p8_constants.specs.declared.items.Item.{Item}
 use Rattle.p8_constants.specs.declared.items.Item.TheVariants as item_case
 use Rattle.p8_constants.specs.declared.names.Defined.{Defined}

@@ -2,17 +2,18 @@
 ghost use Rattle.std.specs.Prelude.{◌≡◌, ℕ, ◌+◌, ◌*◌, ◌<◌, ◌^◌, List, OnOk, length, slice_set, Some, option_map};
 ghost use Rattle.p8_tree.specs.Views.{tree_of};
 ghost use Rattle.p8_tree.specs.Sources.{Source};
-ghost use Rattle.p8_kinds.specs.ConstantEntries.{setting_of, at_bytes};
-ghost use Rattle.p8_kinds.specs.Meanings.{Setting};
-ghost use Rattle.p8_kinds.specs.Values.{value};
+ghost use Rattle.p8_fold.specs.ConstantEntries.{setting_of, at_bytes};
+ghost use Rattle.p8_fold.specs.Meanings.{Setting};
+ghost use Rattle.p8_fold.specs.Values.{value};
 ghost use Rattle.p8_constants.specs.Constants.{scope_of, counted};
 ghost use Rattle.p8_constants.specs.Mentions.{mentioned};
-ghost use Rattle.p8_constants.specs.Rows.{rows_from, rows_of, meaning_in, moved, counter_value, IsPlan, IsPrepared, Joins, with_first, IsEvaluated, IsSized, IsSameBut, IsEntered, IsNameEntered};
+ghost use Rattle.p8_constants.specs.Rows.{rows_from, rows_of, meaning_in, moved, counter_value, IsPlan, IsPrepared, Joins, with_first, IsEvaluated};
+ghost use Rattle.p8_constants.specs.Rows.{IsSized, IsSameBut, IsEntered, IsNameEntered};
 
 use crate::mentions::names_in;
 use crate::plan::Plan;
 use crate::rows::{Move, move_of};
-use p8_kinds::{Consts, Meaning, value_of};
+use p8_fold::{Consts, Meaning, value_of};
 use p8_tree::{Expr, Fault, Text};
 use p8_words::NoMemory;
 use std::alloc::Global;
@@ -35,10 +36,16 @@ impl Evaluation {
         plan: &Plan,
         place: usize,
     ) -> Result<(), NoMemory>
-        requires sized { IsSized (length plan.now.rows) (λ n. at_bytes n plan.now.index.names) plan.now.numbers.items plan.now.order.items self.old.values.items }
+        requires sized { IsSized (length plan.now.rows)
+            (λ n. at_bytes n plan.now.index.names) plan.now.numbers.items plan.now.order.items self.old.values.items }
         requires place { place < length plan.now.order.items }
         ensures size { length self.new.values.items ≡ length self.old.values.items }
-        ensures evaluated { (outside : Setting) → (file : Source) → rows_from plan.now.rows ≡ rows_of file → IsPlan outside (rows_from plan.now.rows) (λ n. at_bytes n plan.now.index.names) plan.now.numbers.items plan.now.order.items → IsEvaluated (scope_of outside file) (rows_from plan.now.rows) plan.now.order.items place self.old.values.items (setting_of self.old.consts) self.old.fault → OnOk result (IsEvaluated (scope_of outside file) (rows_from plan.now.rows) plan.now.order.items (place + 1) self.new.values.items (setting_of self.new.consts) self.new.fault) }
+        ensures evaluated { (outside : Setting) → (file : Source) → rows_from plan.now.rows ≡ rows_of file →
+            IsPlan outside (rows_from plan.now.rows) (λ n. at_bytes n plan.now.index.names) plan.now.numbers.items plan.now.order.items →
+            IsEvaluated (scope_of outside file) (rows_from plan.now.rows) plan.now.order.items place self.old.values.items
+            (setting_of self.old.consts) self.old.fault → OnOk result
+            (IsEvaluated (scope_of outside file) (rows_from plan.now.rows) plan.now.order.items (place + 1) self.new.values.items
+            (setting_of self.new.consts) self.new.fault) }
     {
         let node = plan.order[place];
         let expressions = 2 * plan.rows.len();
@@ -54,11 +61,14 @@ impl Evaluation {
 
     // Evaluates an expression, with the meanings that its names have there.
     fn fold(&mut self, alloc: Global, plan: &Plan, node: usize, expr: &Expr) -> Result<(), NoMemory>
-        requires sized { IsSized (length plan.now.rows) (λ n. at_bytes n plan.now.index.names) plan.now.numbers.items plan.now.order.items self.old.values.items }
+        requires sized { IsSized (length plan.now.rows)
+            (λ n. at_bytes n plan.now.index.names) plan.now.numbers.items plan.now.order.items self.old.values.items }
         requires node { node < length self.old.values.items }
         ensures size { length self.new.values.items ≡ length self.old.values.items }
-        ensures prepared { OnOk result (IsPrepared (λ n. at_bytes n plan.now.index.names) plan.now.numbers.items self.old.values.items node (mentioned (tree_of expr.now)) (setting_of self.old.consts) (setting_of self.new.consts)) }
-        ensures value { OnOk result (self.new.values.items ≡ slice_set self.old.values.items node (counted (value (setting_of self.new.consts) (tree_of expr.now)))) }
+        ensures prepared { OnOk result (IsPrepared (λ n. at_bytes n plan.now.index.names) plan.now.numbers.items self.old.values.items node
+            (mentioned (tree_of expr.now)) (setting_of self.old.consts) (setting_of self.new.consts)) }
+        ensures value { OnOk result (self.new.values.items ≡
+            slice_set self.old.values.items node (counted (value (setting_of self.new.consts) (tree_of expr.now)))) }
         ensures small { OnOk result (counted (value (setting_of self.new.consts) (tree_of expr.now)) < 2 ^ 32) }
         ensures fault { OnOk result (Joins (setting_of self.new.consts) (tree_of expr.now) self.old.fault self.new.fault) }
     {
@@ -93,11 +103,13 @@ impl Evaluation {
         node: usize,
         expr: &Expr,
     ) -> Result<(), NoMemory>
-        requires sized { IsSized (length plan.now.rows) (λ n. at_bytes n plan.now.index.names) plan.now.numbers.items plan.now.order.items self.old.values.items }
+        requires sized { IsSized (length plan.now.rows)
+            (λ n. at_bytes n plan.now.index.names) plan.now.numbers.items plan.now.order.items self.old.values.items }
         requires node { node < length self.old.values.items }
         ensures values { self.new.values ≡ self.old.values }
         ensures fault { self.new.fault ≡ self.old.fault }
-        ensures prepared { OnOk result (IsPrepared (λ n. at_bytes n plan.now.index.names) plan.now.numbers.items self.old.values.items node (mentioned (tree_of expr.now)) (setting_of self.old.consts) (setting_of self.new.consts)) }
+        ensures prepared { OnOk result (IsPrepared (λ n. at_bytes n plan.now.index.names) plan.now.numbers.items self.old.values.items node
+            (mentioned (tree_of expr.now)) (setting_of self.old.consts) (setting_of self.new.consts)) }
     {
         let names = names_in(alloc, expr)?;
         for name in names.as_slice() {
@@ -109,7 +121,8 @@ impl Evaluation {
 
     // What a name means in the expression of a node, if it is a constant.
     fn meaning(&self, plan: &Plan, node: usize, name: &Text) -> Option<Meaning>
-        requires sized { IsSized (length plan.now.rows) (λ n. at_bytes n plan.now.index.names) plan.now.numbers.items plan.now.order.items self.now.values.items }
+        requires sized { IsSized (length plan.now.rows)
+            (λ n. at_bytes n plan.now.index.names) plan.now.numbers.items plan.now.order.items self.now.values.items }
         requires node { node < length self.now.values.items }
         ensures { result ≡ option_map (meaning_in plan.now.numbers.items self.now.values.items node) (at_bytes name.now plan.now.index.names) }
     {
@@ -123,9 +136,11 @@ impl Evaluation {
 
     // Evaluates the counter as it comes to an item.
     fn count(&mut self, plan: &Plan, k: usize)
-        requires sized { IsSized (length plan.now.rows) (λ n. at_bytes n plan.now.index.names) plan.now.numbers.items plan.now.order.items self.old.values.items }
+        requires sized { IsSized (length plan.now.rows)
+            (λ n. at_bytes n plan.now.index.names) plan.now.numbers.items plan.now.order.items self.old.values.items }
         requires item { k < length plan.now.rows }
-        ensures value { self.new.values.items ≡ slice_set self.old.values.items (2 * length plan.now.rows + k) (counter_value (rows_from plan.now.rows) self.old.values.items k) }
+        ensures value { self.new.values.items ≡ slice_set self.old.values.items (2 * length plan.now.rows + k)
+            (counter_value (rows_from plan.now.rows) self.old.values.items k) }
         ensures consts { self.new.consts ≡ self.old.consts }
         ensures fault { self.new.fault ≡ self.old.fault }
     {
@@ -134,7 +149,8 @@ impl Evaluation {
     }
 
     fn counter_value(&self, plan: &Plan, k: usize) -> u32
-        requires sized { IsSized (length plan.now.rows) (λ n. at_bytes n plan.now.index.names) plan.now.numbers.items plan.now.order.items self.now.values.items }
+        requires sized { IsSized (length plan.now.rows)
+            (λ n. at_bytes n plan.now.index.names) plan.now.numbers.items plan.now.order.items self.now.values.items }
         requires item { k < length plan.now.rows }
         ensures { result ≡ counter_value (rows_from plan.now.rows) self.now.values.items k }
     {
@@ -160,8 +176,10 @@ impl Evaluation {
 
     /// Says what the constants mean, once all nodes are evaluated.
     pub(crate) fn enter_all(&mut self, plan: &Plan) -> Result<(), NoMemory>
-        requires sized { IsSized (length plan.now.rows) (λ n. at_bytes n plan.now.index.names) plan.now.numbers.items plan.now.order.items self.old.values.items }
-        ensures entered { OnOk result (IsEntered (λ n. at_bytes n plan.now.index.names) (rows_from plan.now.rows) self.old.values.items (length plan.now.rows) (setting_of self.old.consts) (setting_of self.new.consts)) }
+        requires sized { IsSized (length plan.now.rows)
+            (λ n. at_bytes n plan.now.index.names) plan.now.numbers.items plan.now.order.items self.old.values.items }
+        ensures entered { OnOk result (IsEntered (λ n. at_bytes n plan.now.index.names) (rows_from plan.now.rows) self.old.values.items
+            (length plan.now.rows) (setting_of self.old.consts) (setting_of self.new.consts)) }
         ensures fault { self.new.fault ≡ self.old.fault }
     {
         for k in 0..plan.rows.len() {
@@ -171,10 +189,12 @@ impl Evaluation {
     }
 
     fn enter_name(&mut self, plan: &Plan, name: &Option<Text>) -> Result<(), NoMemory>
-        requires sized { IsSized (length plan.now.rows) (λ n. at_bytes n plan.now.index.names) plan.now.numbers.items plan.now.order.items self.old.values.items }
+        requires sized { IsSized (length plan.now.rows)
+            (λ n. at_bytes n plan.now.index.names) plan.now.numbers.items plan.now.order.items self.old.values.items }
         ensures values { self.new.values ≡ self.old.values }
         ensures fault { self.new.fault ≡ self.old.fault }
-        ensures entered { OnOk result (IsNameEntered (λ n. at_bytes n plan.now.index.names) name.now self.old.values.items (setting_of self.old.consts) (setting_of self.new.consts)) }
+        ensures entered { OnOk result (IsNameEntered (λ n. at_bytes n plan.now.index.names) name.now self.old.values.items
+            (setting_of self.old.consts) (setting_of self.new.consts)) }
     {
         match name {
             None => Ok(()),

@@ -1,6 +1,6 @@
 // Which of several faults is told.
 ghost use Rattle.std.specs.Prelude.{◌≡◌};
-ghost use Rattle.p8_kinds.specs.Values.{where_so};
+ghost use Rattle.p8_fold.specs.Values.{where_so};
 
 use p8_tree::Fault;
 

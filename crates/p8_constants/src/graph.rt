@@ -3,7 +3,7 @@ ghost use Rattle.std.specs.Prelude.{◌≡◌, ℕ, ◌+◌, ◌*◌, ◌<◌, �
 ghost use Rattle.std.specs.Option.{option_to_list};
 ghost use Rattle.std.specs.List.{filter_map};
 ghost use Rattle.p8_tree.specs.Views.{constant_of, tree_of};
-ghost use Rattle.p8_kinds.specs.ConstantEntries.{at_bytes};
+ghost use Rattle.p8_fold.specs.ConstantEntries.{at_bytes};
 ghost use Rattle.p8_constants.specs.Rows.{rows_from, nodes_by, nodes_behind, nodes_of_counter, IsGraphBy};
 
 use crate::directed_graph::Graph;
@@ -30,7 +30,8 @@ pub(crate) fn graph_of(alloc: Global, rows: &Rows, index: &Index) -> Result<Grap
 
 // Adds the nodes of an item's value and step.
 fn add_item(alloc: Global, item: &ConItem, index: &Index, graph: &mut Graph) -> Result<(), NoMemory>
-    ensures { OnOk result (graph.new ≡ graph.old ++ nodes_by (λ n. at_bytes n index.now.names) (constant_of item.now).value ∷ [] ++ nodes_by (λ n. at_bytes n index.now.names) (constant_of item.now).step ∷ []) }
+    ensures { OnOk result (graph.new ≡ graph.old ++ nodes_by (λ n. at_bytes n index.now.names) (constant_of item.now).value ∷
+        [] ++ nodes_by (λ n. at_bytes n index.now.names) (constant_of item.now).step ∷ []) }
 {
     graph.push(nodes_of(alloc, &item.value, index)?)?;
     graph.push(nodes_of(alloc, &item.step, index)?)?;
@@ -74,7 +75,8 @@ fn add_node(nodes: &mut Vec<usize>, node: Option<usize>) -> Result<(), AllocErro
 // Adds the nodes of the counters.
 fn add_counters(alloc: Global, rows: &Rows, graph: &mut Graph) -> Result<(), NoMemory>
     requires { 2 * length rows.now + length rows.now < 2 ^ 64 }
-    ensures { (find : List ℕ → Option ℕ) → IsGraphBy find (rows_from rows.now) (length rows.now) 0 graph.old → OnOk result (IsGraphBy find (rows_from rows.now) (length rows.now) (length rows.now) graph.new) }
+    ensures { (find : List ℕ → Option ℕ) → IsGraphBy find (rows_from rows.now) (length rows.now) 0 graph.old →
+        OnOk result (IsGraphBy find (rows_from rows.now) (length rows.now) (length rows.now) graph.new) }
 {
     for k in 0..rows.len() {
         graph.push(before(alloc, rows, k)?)?;

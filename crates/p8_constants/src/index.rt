@@ -1,10 +1,10 @@
 // Names of constants, and the nodes that give their values.
 ghost use Rattle.std.specs.Prelude.{◌≡◌, ℕ, ◌+◌, ◌*◌, ◌<◌, ◌^◌, List, Option, Some, None, OnOk, IfOk, length, option_map};
-ghost use Rattle.p8_kinds.specs.ConstantEntries.{setting_of, at_bytes};
+ghost use Rattle.p8_fold.specs.ConstantEntries.{setting_of, at_bytes};
 ghost use Rattle.p8_constants.specs.Rows.{rows_from, node_of, constant_at, or_else, named_here};
 
 use crate::rows::Rows;
-use p8_kinds::Consts;
+use p8_fold::Consts;
 use p8_tree::Text;
 use p8_words::NoMemory;
 use std::alloc::{AllocError, Global};
@@ -20,7 +20,8 @@ impl Index {
     /// The names of a file's constants, each with the node of its first definition.
     pub(crate) fn of_rows(alloc: Global, rows: &Rows, outside: &Consts) -> Result<Index, NoMemory>
         requires { 2 * length rows.now + length rows.now < 2 ^ 64 }
-        ensures { IfOk result (λ index. (n : List ℕ) → at_bytes n index.names ≡ option_map (node_of (rows_from rows.now)) (constant_at (setting_of outside.now) (rows_from rows.now) n)) }
+        ensures { IfOk result (λ index. (n : List ℕ) →
+            at_bytes n index.names ≡ option_map (node_of (rows_from rows.now)) (constant_at (setting_of outside.now) (rows_from rows.now) n)) }
     {
         let mut index = Index {
             names: BTreeMap::new(alloc),
@@ -39,7 +40,8 @@ impl Index {
         node: usize,
         outside: &Consts,
     ) -> Result<(), AllocError>
-        ensures { OnOk result ((n : List ℕ) → at_bytes n self.new.names ≡ or_else (at_bytes n self.old.names) (named_here (setting_of outside.now) n name.now node)) }
+        ensures { OnOk result ((n : List ℕ) → at_bytes n self.new.names ≡
+            or_else (at_bytes n self.old.names) (named_here (setting_of outside.now) n name.now node)) }
     {
         match name {
             None => Ok(()),
@@ -54,7 +56,8 @@ impl Index {
         node: usize,
         outside: &Consts,
     ) -> Result<(), AllocError>
-        ensures { OnOk result ((n : List ℕ) → at_bytes n self.new.names ≡ or_else (at_bytes n self.old.names) (named_here (setting_of outside.now) n (Some name.now) node)) }
+        ensures { OnOk result ((n : List ℕ) → at_bytes n self.new.names ≡
+            or_else (at_bytes n self.old.names) (named_here (setting_of outside.now) n (Some name.now) node)) }
     {
         if outside.get(name).is_some() || self.get(name).is_some() {
             return Ok(());

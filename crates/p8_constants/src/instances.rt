@@ -1,7 +1,7 @@
 // How many instances of objects a file has.
 ghost use Rattle.std.specs.Prelude.{◌≡◌, ℕ, ◌≤◌, option_map};
 ghost use Rattle.p8_tree.specs.Views.{child_of};
-ghost use Rattle.p8_kinds.specs.ConstantEntries.{setting_of};
+ghost use Rattle.p8_fold.specs.ConstantEntries.{setting_of};
 ghost use Rattle.p8_constants.specs.FileItems.{object};
 ghost use Rattle.p8_constants.specs.Rules.{has_no_instance, HasWrongInstances, instances_behind, WrongInstancesIn};
 ghost use Rattle.p8_constants.specs.Standing.{item_of, items_of, IsFirstOf, IsCapped};
@@ -10,7 +10,7 @@ ghost use Rattle.p8_tree.specs.Views.{tree_of};
 use crate::first_faults::where_so;
 use crate::items::Item;
 use crate::rules::count_value;
-use p8_kinds::{Consts, value_of};
+use p8_fold::{Consts, value_of};
 use p8_tree::{Expr, Fault, ObjItem, Refusal, first_of_two};
 
 /// How many instances of objects a file may have.

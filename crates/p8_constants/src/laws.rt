@@ -1,8 +1,8 @@
 // What holds of the constants of every file.
 ghost use Rattle.std.specs.Prelude.{◌≡◌, ◌↔◌, ℕ, ◌+◌, ◌%◌, ◌^◌, ◌<◌, Some, Contains, List, [], ◌∷◌, ◌++◌};
 ghost use Rattle.p8_tree.specs.declared.faults.Fault.{Fault};
-ghost use Rattle.p8_kinds.specs.Meanings.{Setting};
-ghost use Rattle.p8_kinds.specs.Values.{value, FaultIn};
+ghost use Rattle.p8_fold.specs.Meanings.{Setting};
+ghost use Rattle.p8_fold.specs.Values.{value, FaultIn};
 ghost use Rattle.p8_constants.specs.Items.{Term, Sum, definition};
 ghost use Rattle.p8_constants.specs.Mentions.{Mentions};
 ghost use Rattle.p8_constants.specs.Constants.{Scope, Needs, IsRightFor, Adds, Has, IsOrdered, IsLayered, counted};
@@ -20,7 +20,8 @@ pub fn one_meaning()
 
 /// Law: a further step adds its value to a counter, or 0 where it is refused.
 pub fn steps_add()
-    ensures { (c : Scope) → (es : List Term) → (e : Term) → (s : Setting) → (v : ℕ) → Adds c es v → IsRightFor c e s → Adds c (es ++ e ∷ []) ((v + counted (value s e.tree)) % 2 ^ 32) }
+    ensures { (c : Scope) → (es : List Term) → (e : Term) → (s : Setting) → (v : ℕ) → Adds c es v → IsRightFor c e s →
+        Adds c (es ++ e ∷ []) ((v + counted (value s e.tree)) % 2 ^ 32) }
 {}
 
 /// Names of constants, and a rank for each.
@@ -44,5 +45,7 @@ pub trait Layers {
 
 /// Law: where expressions stand in layers, a name whose terms stand in lower layers than an expression isn't circular there.
 pub fn lower_is_not_circular<L: Layers>()
-    ensures { (c : Scope) → IsLayered c L.Among L.layer → (n : List ℕ) → (e : Term) → ((sum : Sum) → (f : Term) → c.outside.name n ≡ None → definition c.constants n ≡ Some sum → Contains sum.terms f → L.Among f × (L.layer f < L.layer e)) → ¬ Needs c n e }
+    ensures { (c : Scope) → IsLayered c L.Among L.layer → (n : List ℕ) → (e : Term) →
+        ((sum : Sum) → (f : Term) → c.outside.name n ≡ None → definition c.constants n ≡ Some sum → Contains sum.terms f →
+        L.Among f × (L.layer f < L.layer e)) → ¬ Needs c n e }
 {}

@@ -2,8 +2,9 @@
 ghost use Rattle.std.specs.Prelude.{◌≡◌, ◌↔◌, ℕ, List, Contains, ◌++◌, [], ◌∷◌, OnOk, IfOk, map};
 ghost use Rattle.p8_tree.specs.Views.{tree_of, variable_of, call_of, trees_of, items_of, item_of};
 ghost use Rattle.p8_tree.specs.Bridges.{boxed_index};
-ghost use Rattle.p8_kinds.specs.Verdicts.{boxed_bits};
-ghost use Rattle.p8_constants.specs.Mentions.{Mentions, called_name, mentioned, form_mentioned, variable_mentioned, index_mentioned, bits_mentioned, item_mentioned, trees_mentioned, items_mentioned};
+ghost use Rattle.p8_fold.specs.Verdicts.{boxed_bits};
+ghost use Rattle.p8_constants.specs.Mentions.{Mentions, called_name, mentioned, form_mentioned, variable_mentioned, index_mentioned, bits_mentioned};
+ghost use Rattle.p8_constants.specs.Mentions.{item_mentioned, trees_mentioned, items_mentioned};
 
 use p8_tree::{Call, Expr, ExprKind, Item, Target, Text};
 use p8_words::NoMemory;

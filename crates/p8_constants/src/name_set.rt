@@ -1,6 +1,6 @@
 // Sets of names.
 ghost use Rattle.std.specs.Prelude.{◌≡◌, ℕ, List, [], ◌∷◌, ◌++◌, ◌↔◌, IsTrue, IsSome, Contains, IfOk, OnOk};
-ghost use Rattle.p8_kinds.specs.ConstantEntries.{at_bytes};
+ghost use Rattle.p8_fold.specs.ConstantEntries.{at_bytes};
 ghost use Rattle.p8_constants.specs.Standing.{Holds};
 
 use p8_tree::Text;

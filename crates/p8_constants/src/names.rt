@@ -66,7 +66,8 @@ pub fn names_of<'a>(alloc: Global, items: &[Item<'a>]) -> Result<Vec<Defined<'a>
 
 // Puts the name that an item defines after those before it, if it defines one.
 fn put_name<'a>(item: Item<'a>, names: &mut Vec<Defined<'a>>) -> Result<(), AllocError>
-    ensures { OnOk result (all_defined_of names.new.items ≡ all_defined_of names.old.items ++ defined_before (name_of (item_of item.entry)) (place_of (item_of item.entry)) []) }
+    ensures { OnOk result (all_defined_of names.new.items ≡
+        all_defined_of names.old.items ++ defined_before (name_of (item_of item.entry)) (place_of (item_of item.entry)) []) }
 {
     match item.name() {
         Some(name) => {

@@ -9,7 +9,8 @@ use std::alloc::{AllocError, Global};
 pub fn in_order(alloc: Global, numbers: &[usize]) -> Result<Vec<usize>, NoMemory>
     ensures size { IfOk result (λ nodes. length nodes.items ≡ length numbers.now) }
     ensures nodes { IfOk result (λ nodes. (a : ℕ) → Contains nodes.items a ↔ (a < length numbers.now)) }
-    ensures order { IfOk result (λ nodes. (i j : ℕ) → i ≤ j → j < length nodes.items → ComesNoLater numbers.now (slice_index nodes.items i) (slice_index nodes.items j)) }
+    ensures order { IfOk result (λ nodes. (i j : ℕ) → i ≤ j → j < length nodes.items →
+        ComesNoLater numbers.now (slice_index nodes.items i) (slice_index nodes.items j)) }
 {
     let mut places = places_of(alloc, numbers)?;
     places.sort()?;

@@ -15,7 +15,8 @@ pub fn components(alloc: Global, graph: &Graph) -> Result<Vec<usize>, NoMemory>
     requires { HasItsTargets graph.now }
     ensures size { IfOk result (λ numbers. length numbers.items ≡ length graph.now) }
     ensures falls { IfOk result (λ numbers. (a b : ℕ) → IsEdge graph.now a b → slice_index numbers.items b ≤ slice_index numbers.items a) }
-    ensures same { IfOk result (λ numbers. (a b : ℕ) → a < length graph.now → b < length graph.now → (slice_index numbers.items a ≡ slice_index numbers.items b) ↔ (Reaches graph.now a b × Reaches graph.now b a)) }
+    ensures same { IfOk result (λ numbers. (a b : ℕ) → a < length graph.now → b < length graph.now →
+        (slice_index numbers.items a ≡ slice_index numbers.items b) ↔ (Reaches graph.now a b × Reaches graph.now b a)) }
 {
     let mut search = Search::new(alloc, graph.len())?;
     for node in 0..graph.len() {

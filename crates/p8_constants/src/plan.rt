@@ -1,7 +1,7 @@
 // In which order a file's constants are found.
 ghost use Rattle.std.specs.Prelude.{◌≡◌, ℕ, ◌+◌, ◌*◌, ◌<◌, ◌^◌, List, IfOk, length};
 ghost use Rattle.p8_tree.specs.Views.{source_of};
-ghost use Rattle.p8_kinds.specs.ConstantEntries.{setting_of, at_bytes};
+ghost use Rattle.p8_fold.specs.ConstantEntries.{setting_of, at_bytes};
 ghost use Rattle.p8_constants.specs.Rows.{rows_from, rows_of, IsPlan};
 
 use crate::graph::graph_of;
@@ -9,7 +9,7 @@ use crate::index::Index;
 use crate::node_order::in_order;
 use crate::numbering::components;
 use crate::rows::Rows;
-use p8_kinds::Consts;
+use p8_fold::Consts;
 use p8_tree::SourceFile;
 use p8_words::NoMemory;
 use std::alloc::Global;
@@ -32,7 +32,8 @@ pub(crate) fn plan_of<'a>(
     outside: &Consts,
 ) -> Result<Plan<'a>, NoMemory>
     ensures rows { IfOk result (λ plan. rows_from plan.rows ≡ rows_of (source_of file.now)) }
-    ensures plan { IfOk result (λ plan. IsPlan (setting_of outside.now) (rows_from plan.rows) (λ n. at_bytes n plan.index.names) plan.numbers.items plan.order.items) }
+    ensures plan { IfOk result (λ plan. IsPlan (setting_of outside.now) (rows_from plan.rows)
+        (λ n. at_bytes n plan.index.names) plan.numbers.items plan.order.items) }
 {
     let rows = Rows::of_file(alloc, file)?;
     if rows.len() > usize::MAX / 3 {

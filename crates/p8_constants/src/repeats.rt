@@ -17,14 +17,16 @@ use std::alloc::{AllocError, Global};
 
 // Whether a name is in one of two sets.
 fn is_in(shared: &NameSet, own: &NameSet, name: &[u8]) -> bool
-    ensures { (before : List (List ℕ)) → Holds shared.now before → (behind : List (List ℕ)) → Holds own.now behind → IsTrue result ↔ Contains (before ++ behind) name.now }
+    ensures { (before : List (List ℕ)) → Holds shared.now before → (behind : List (List ℕ)) → Holds own.now behind →
+        IsTrue result ↔ Contains (before ++ behind) name.now }
 {
     shared.has(name) || own.has(name)
 }
 
 // 14 where a name is in one of two sets.
 fn repeated(shared: &NameSet, own: &NameSet, defined: Defined<'_>) -> Option<Fault>
-    ensures { (before : List (List ℕ)) → Holds shared.now before → (behind : List (List ℕ)) → Holds own.now behind → IsFirstOf result (Repeats (before ++ behind) (defined_of defined.entry)) }
+    ensures { (before : List (List ℕ)) → Holds shared.now before → (behind : List (List ℕ)) → Holds own.now behind →
+        IsFirstOf result (Repeats (before ++ behind) (defined_of defined.entry)) }
 {
     let fault = Refusal::Duplicate.at(defined.place);
     where_so(is_in(shared, own, defined.name.as_slice()), fault)
@@ -36,7 +38,8 @@ pub(crate) fn first_repeated(
     own: &mut NameSet,
     names: &[Defined<'_>],
 ) -> Result<Option<Fault>, AllocError>
-    ensures first { IfOk result (λ first. (before : List (List ℕ)) → Holds shared.now before → (behind : List (List ℕ)) → Holds own.old behind → IsFirstOf first (RepeatIn (before ++ behind) (all_defined_of names.now))) }
+    ensures first { IfOk result (λ first. (before : List (List ℕ)) → Holds shared.now before → (behind : List (List ℕ)) → Holds own.old behind →
+        IsFirstOf first (RepeatIn (before ++ behind) (all_defined_of names.now))) }
     ensures taken { IfOk result (λ _. (behind : List (List ℕ)) → Holds own.old behind → Holds own.new (behind ++ spelled (all_defined_of names.now))) }
 {
     let mut first = None;
@@ -66,7 +69,8 @@ fn repeated_in(
     shared: &NameSet,
     method: &Method,
 ) -> Result<Option<Fault>, AllocError>
-    ensures { IfOk result (λ first. (names : List (List ℕ)) → Holds shared.now names → IsFirstOf first (HasOwnRepeat names (method_tree (method_of method.now)))) }
+    ensures { IfOk result (λ first. (names : List (List ℕ)) → Holds shared.now names →
+        IsFirstOf first (HasOwnRepeat names (method_tree (method_of method.now)))) }
 {
     let names = own_names(alloc, method)?;
     let mut own = NameSet::new(alloc);

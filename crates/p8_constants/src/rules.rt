@@ -1,14 +1,14 @@
 // Faults of items, each looked at by itself.
 ghost use Rattle.std.specs.Prelude.{◌≡◌, option_map};
 ghost use Rattle.p8_tree.specs.Views.{tree_of, method_of};
-ghost use Rattle.p8_kinds.specs.ConstantEntries.{setting_of};
+ghost use Rattle.p8_fold.specs.ConstantEntries.{setting_of};
 ghost use Rattle.p8_constants.specs.FileItems.{method as method_tree};
 ghost use Rattle.p8_constants.specs.Rules.{InAny, HasTooManyParams, is_public, has_public, LacksPub, count_in, count_of, FaultInCount, HasFaultInCount};
 ghost use Rattle.p8_constants.specs.Standing.{item_of, items_of, IsFirstOf};
 
 use crate::first_faults::where_so;
 use crate::items::Item;
-use p8_kinds::{Consts, value_of};
+use p8_fold::{Consts, value_of};
 use p8_tree::{Expr, Fault, Method, Place, Refusal, first_of_two};
 
 /// How many parameters a method may have.

@@ -97,7 +97,8 @@ impl Search {
     // Takes the components above this position for one: an edge leads back to it.
     fn merge(&mut self, position: usize)
         ensures marks { self.new.marks ≡ self.old.marks }
-        ensures state { (g : List (List ℕ)) → (t : ℕ) → IsStateHolding g (λ b. b ≡ t) self.old → IsReached g self.old t → mark self.old.marks t ≡ Open position → IsState g self.new × (work g self.new ≤ work g self.old) }
+        ensures state { (g : List (List ℕ)) → (t : ℕ) → IsStateHolding g (λ b. b ≡ t) self.old → IsReached g self.old t →
+            mark self.old.marks t ≡ Open position → IsState g self.new × (work g self.new ≤ work g self.old) }
     {
         let kept = boundaries_up_to(&self.boundaries, position);
         self.boundaries.truncate(kept);
@@ -108,7 +109,8 @@ impl Search {
         requires some { 0 < length self.old.boundaries }
         requires used { length self.old.targets ≤ (boundary_at self.old.boundaries (length self.old.boundaries - 1)).target }
         requires state { (g : List (List ℕ)) × IsState g self.old }
-        ensures { (g : List (List ℕ)) → IsState g self.old → IsState g self.new × (work g self.new < work g self.old) × IsFurther self.old.marks self.new.marks }
+        ensures { (g : List (List ℕ)) → IsState g self.old →
+            IsState g self.new × (work g self.new < work g self.old) × IsFurther self.old.marks self.new.marks }
     {
         let top = self.boundaries.len() - 1;
         let begin = self.boundaries[top].node;

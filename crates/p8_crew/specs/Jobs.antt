@@ -22,7 +22,8 @@ Calls w n before after answer = (last : PassSteps) × Waited before last × Trie
 -- such calls one after the other, each of which makes a turn; these are the turns, the newest first
 pub data Makes (w : World) (n : ℕ) (given : PassSteps) : List Turn → PassSteps → Type 0 where
   no_turn : Makes w n given [] given
-  one_more : {made : List Turn} {before : PassSteps} (turn : Turn) (after : PassSteps) → Makes w n given made before → Calls w n before after (Done turn) → Makes w n given (turn ∷ made) after
+  one_more : {made : List Turn} {before : PassSteps} (turn : Turn) (after : PassSteps) → Makes w n given made before →
+      Calls w n before after (Done turn) → Makes w n given (turn ∷ made) after
 
 -- the pass of a job that was opened: it has made turns by such calls, and one more call has found that none comes any more.
 -- So its cog's turns are those that it had, and these

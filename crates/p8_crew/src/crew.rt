@@ -106,7 +106,8 @@ pub fn run_crew<R: Threads + Wait + Clone + Send + Drop + 'static, F: Starter>(
 
     // The world has no other ended history, each legal past is a part of it, and its keys rise.
     ensures only { IfOk result (λ ended. (past : List Turn) → HasEnded asks desk.world past → past ≡ reverse ended.history.turns.list) }
-    ensures begins_each { IfOk result (λ ended. (past : List Turn) → Legal asks desk.world past → (more : List Turn) × (more ++ past ≡ reverse ended.history.turns.list)) }
+    ensures begins_each { IfOk result (λ ended. (past : List Turn) → Legal asks desk.world past →
+        (more : List Turn) × (more ++ past ≡ reverse ended.history.turns.list)) }
     ensures rises { IfOk result (λ ended. Rises (reverse ended.history.turns.list)) }
 
     ensures crew { IfOk result (λ ended. IsCrew (F.refused starter.old) (F.refused starter.new) ended.crew) }

@@ -11,8 +11,8 @@ use Rattle.p8_tree.specs.Sources.{Instruction}
 use Rattle.p8_tree.specs.declared.faults.Fault.{Fault}
 use Rattle.p8_tree.specs.Faults.{fault}
 use Rattle.p8_tree.specs.declared.refusal.Refusal.TheVariants.{OperandRange}
-use Rattle.p8_kinds.specs.Meanings.{Setting}
-use Rattle.p8_kinds.specs.Values.{where_so}
+use Rattle.p8_fold.specs.Meanings.{Setting}
+use Rattle.p8_fold.specs.Values.{where_so}
 use Rattle.p8_instr.specs.declared.instruction.Instr.{Instr}
 use Rattle.p8_instr.specs.Instruction.{instr_of, long_of, writes_result, is_immediate}
 use Rattle.p8_instr.specs.Mnemonics.{mnemonics, word_where, is_named_by, entry_of}

@@ -4,9 +4,9 @@ use Rattle.std.specs.Prelude.{if◌then◌else◌}
 use Rattle.std.specs.Str.{bytes_eq}
 use Rattle.std.proofs.lemmas.Bool.{cases_Bool, false≢true}
 use Rattle.std.proofs.lemmas.Slice.Eq.{bytes_eq-Decides}
-use Rattle.p8_kinds.specs.declared.meanings.Here.{Here}
-use Rattle.p8_kinds.specs.declared.meanings.Meaning.{Meaning}
-use Rattle.p8_kinds.specs.Meanings.{Setting, entry}
+use Rattle.p8_fold.specs.declared.meanings.Here.{Here}
+use Rattle.p8_fold.specs.declared.meanings.Meaning.{Meaning}
+use Rattle.p8_fold.specs.Meanings.{Setting, entry}
 use Rattle.p8_dat.specs.Names.{entered}
 
 -- settings that give each entry the same meaning

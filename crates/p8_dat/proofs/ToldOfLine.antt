@@ -7,11 +7,11 @@ use Rattle.p8_tree.specs.Expressions.{Tree}
 use Rattle.p8_tree.specs.Sources.{Instruction}
 use Rattle.p8_tree.specs.declared.faults.Fault.{Fault}
 use Rattle.p8_tree.specs.Faults.{IsFirstFault, first_of_two}
-use Rattle.p8_kinds.specs.Meanings.{Setting}
-use Rattle.p8_kinds.specs.Values.{value, FaultIn}
-use Rattle.p8_kinds.specs.Verdicts.{verdict}
-use Rattle.p8_kinds.proofs.Judging.{Tells, fault_told, two_told, own_told}
-use Rattle.p8_kinds.proofs.Judged.{judged}
+use Rattle.p8_fold.specs.Meanings.{Setting}
+use Rattle.p8_fold.specs.Values.{value, FaultIn}
+use Rattle.p8_fold.specs.Verdicts.{verdict}
+use Rattle.p8_fold.proofs.Judging.{Tells, fault_told, two_told, own_told}
+use Rattle.p8_fold.proofs.Judged.{judged}
 use Rattle.p8_dat.specs.Encoding.{range_fault, FaultInOperand, FaultInInstruction, call_fault}
 use Rattle.p8_dat.specs.FirstOfLine.{first_in_operand, first_in_instruction}
 

@@ -12,10 +12,10 @@ use Rattle.p8_tree.specs.declared.sources.Block.{Block}
 use Rattle.p8_tree.specs.declared.faults.Fault.{Fault}
 use Rattle.p8_tree.specs.Faults.{IsFirstFault}
 use Rattle.p8_tree.specs.Names.{is_local}
-use Rattle.p8_kinds.specs.declared.meanings.Meaning.{Meaning}
-use Rattle.p8_kinds.specs.declared.meanings.Meaning.TheVariants as meaning_case
-use Rattle.p8_kinds.specs.Meanings.{Setting, outside_operands}
-use Rattle.p8_kinds.proofs.Judging.{Tells}
+use Rattle.p8_fold.specs.declared.meanings.Meaning.{Meaning}
+use Rattle.p8_fold.specs.declared.meanings.Meaning.TheVariants as meaning_case
+use Rattle.p8_fold.specs.Meanings.{Setting, outside_operands}
+use Rattle.p8_fold.proofs.Judging.{Tells}
 use Rattle.p8_dat.proofs.ToldOfLine.{as_match}
 use Rattle.p8_dat.specs.declared.spots.Spot.{Spot}
 use Rattle.p8_dat.specs.declared.placing.Placed as code

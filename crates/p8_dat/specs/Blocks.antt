@@ -3,7 +3,7 @@
 use Rattle.std.specs.Prelude.{◌⊎◌, ℕ, List, [], ◌∷◌, ◌++◌}
 use Rattle.p8_tree.specs.Sources.{BlockTree, Dat, Line, Source}
 use Rattle.p8_tree.specs.declared.faults.Fault.{Fault}
-use Rattle.p8_kinds.specs.Meanings.{Setting}
+use Rattle.p8_fold.specs.Meanings.{Setting}
 use Rattle.p8_dat.specs.declared.spots.Spot.{Spot}
 use Rattle.p8_dat.specs.Spots.{Placed, placed}
 use Rattle.p8_dat.specs.Names.{without_labels, with_labels, Region, regions, names_in}

@@ -4,8 +4,8 @@ use Rattle.std.specs.Prelude.{ℕ, zero, suc, ◌-◌, ◌/◌, nat_lt, if◌the
 use Rattle.std.specs.Int.{to_le_bytes, w32}
 use Rattle.p8_tree.specs.Expressions.{Tree}
 use Rattle.p8_tree.specs.Sources.{Datum, Contents, Data, Instr}
-use Rattle.p8_kinds.specs.Meanings.{Setting, outside_operands, in_operand}
-use Rattle.p8_kinds.specs.Values.{value}
+use Rattle.p8_fold.specs.Meanings.{Setting, outside_operands, in_operand}
+use Rattle.p8_fold.specs.Values.{value}
 use Rattle.p8_dat.specs.Encoding.{long_of_line}
 use Rattle.p8_dat.specs.declared.spots.Spot.{Spot}
 use Rattle.p8_dat.specs.Spots.{limit, advanced, number, string, size_of, behind_item, Placed}

@@ -4,7 +4,8 @@
 -- 0 to 511, addresses of the cog's longs or, after `#`, the source itself. CALL #x is a jump to x that writes the place to
 -- return to into x_RET, the label of the subroutine's last instruction. Source: the Propeller Manual v1.2, assembly chapter,
 -- "Syntax Definitions", "CALL", "RET" and "NOP"; refusals are this project's profile.
-use Rattle.std.specs.Prelude.{◌≡◌, ◌⊎◌, ℕ, ◌+◌, ◌*◌, ◌/◌, ◌%◌, ◌^◌, Bool, false, nat_lt, ◌==◌, ◌||◌, not, if◌then◌else◌, List, ◌++◌, Option, Some, None, is_some, codes}
+use Rattle.std.specs.Prelude.{◌≡◌, ◌⊎◌, ℕ, ◌+◌, ◌*◌, ◌/◌, ◌%◌, ◌^◌, Bool, false, nat_lt, ◌==◌, ◌||◌, not, if◌then◌else◌, List, ◌++◌, Option, Some}
+use Rattle.std.specs.Prelude.{None, is_some, codes}
 use Rattle.std.specs.Int.{from_bool}
 use Rattle.std.specs.Str.{bytes_eq}
 use Rattle.p8_tree.specs.declared.places.Place.{Place}
@@ -13,10 +14,10 @@ use Rattle.p8_tree.specs.Sources.{Instruction}
 use Rattle.p8_tree.specs.declared.faults.Fault.{Fault}
 use Rattle.p8_tree.specs.Faults.{fault}
 use Rattle.p8_tree.specs.declared.refusal.Refusal.TheVariants.{OperandRange, NoRetLabel}
-use Rattle.p8_kinds.specs.declared.meanings.Meaning.{Meaning}
-use Rattle.p8_kinds.specs.declared.meanings.Meaning.TheVariants as meaning_case
-use Rattle.p8_kinds.specs.Meanings.{Setting, meaning_of}
-use Rattle.p8_kinds.specs.Values.{value, FaultIn, where_so}
+use Rattle.p8_fold.specs.declared.meanings.Meaning.{Meaning}
+use Rattle.p8_fold.specs.declared.meanings.Meaning.TheVariants as meaning_case
+use Rattle.p8_fold.specs.Meanings.{Setting, meaning_of}
+use Rattle.p8_fold.specs.Values.{value, FaultIn, where_so}
 use Rattle.p8_instr.specs.declared.instruction.Instr.{Instr}
 use Rattle.p8_instr.specs.Instruction.{long_of, writes_result, is_immediate}
 use Rattle.p8_instr.specs.Mnemonics.{entry_of, mnemonics}

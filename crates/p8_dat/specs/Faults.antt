@@ -7,8 +7,8 @@ use Rattle.p8_tree.specs.Sources.{Datum, Contents, Nothing, Data, Org, Res, Fit,
 use Rattle.p8_tree.specs.declared.faults.Fault.{Fault}
 use Rattle.p8_tree.specs.Faults.{fault}
 use Rattle.p8_tree.specs.declared.refusal.Refusal.TheVariants.{FitExceeded, OrgRange}
-use Rattle.p8_kinds.specs.Meanings.{Setting}
-use Rattle.p8_kinds.specs.Values.{value, FaultIn, where_so}
+use Rattle.p8_fold.specs.Meanings.{Setting}
+use Rattle.p8_fold.specs.Values.{value, FaultIn, where_so}
 use Rattle.p8_dat.specs.Encoding.{FaultInInstruction}
 use Rattle.p8_dat.specs.declared.spots.Spot.{Spot}
 use Rattle.p8_dat.specs.Spots.{number, string, behind_item, Placed}

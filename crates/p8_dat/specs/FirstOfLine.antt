@@ -6,8 +6,8 @@ use Rattle.p8_tree.specs.Expressions.{Tree}
 use Rattle.p8_tree.specs.Sources.{Instruction}
 use Rattle.p8_tree.specs.declared.faults.Fault.{Fault}
 use Rattle.p8_tree.specs.Faults.{first_of_two}
-use Rattle.p8_kinds.specs.Meanings.{Setting}
-use Rattle.p8_kinds.specs.Verdicts.{verdict}
+use Rattle.p8_fold.specs.Meanings.{Setting}
+use Rattle.p8_fold.specs.Verdicts.{verdict}
 use Rattle.p8_dat.specs.Encoding.{range_fault, call_fault}
 
 abbrev pub first_in_operand : Setting → Option Tree → Place → Option Fault

@@ -7,8 +7,8 @@
 use Rattle.std.specs.Prelude.{ℕ, ◌+◌, ◌-◌, ◌*◌, ◌%◌, min, List, [], ◌∷◌, length, Option, Some, None, unwrap_or}
 use Rattle.p8_tree.specs.Expressions.{Tree, node, Str}
 use Rattle.p8_tree.specs.Sources.{Datum, Contents, Data, Org, Res, Instr, Line}
-use Rattle.p8_kinds.specs.Meanings.{Setting}
-use Rattle.p8_kinds.specs.Values.{value}
+use Rattle.p8_fold.specs.Meanings.{Setting}
+use Rattle.p8_fold.specs.Values.{value}
 use Rattle.p8_dat.specs.declared.spots.Spot.{Spot}
 
 -- where both counts stop

@@ -3,8 +3,8 @@ ghost use Rattle.std.specs.Prelude.{◌≡◌, ◌++◌, [], Some, None, IfOk, I
 ghost use Rattle.p8_tree.specs.Views.{source_of};
 ghost use Rattle.p8_tree.specs.declared.faults.Fault.{Fault};
 ghost use Rattle.p8_tree.specs.Faults.{IsFirstFault, IfRefused};
-ghost use Rattle.p8_kinds.specs.ConstantEntries.{setting_of};
-ghost use Rattle.p8_kinds.specs.Meanings.{outside_operands};
+ghost use Rattle.p8_fold.specs.ConstantEntries.{setting_of};
+ghost use Rattle.p8_fold.specs.Meanings.{outside_operands};
 ghost use Rattle.p8_kinds.specs.FileSettings.{file_setting};
 ghost use Rattle.p8_dat.specs.Labels.{size_of_kind, with_label_of, labels_of};
 ghost use Rattle.p8_dat.specs.Blocks.{placed_lines, dat_bytes, IsDatFault};
@@ -14,7 +14,8 @@ use crate::files::{Assembled, assemble_file};
 use crate::output::Output;
 use crate::placing::Placed;
 use crate::spots::Spot;
-use p8_kinds::{Consts, Kinds, Label, NameKind, Named, consts_of};
+use p8_fold::Consts;
+use p8_kinds::{Kinds, Label, NameKind, Named, consts_of};
 use p8_tree::{Fault, List, SourceFile, Text};
 use p8_words::Fail;
 use std::alloc::{AllocError, Global};
@@ -138,9 +139,11 @@ fn assemble_with(
 /// any size costs no more than the bytes that it puts.
 pub fn assemble(alloc: Global, named: &Named, start: u32) -> Result<Dat, Fail<DatFault>>
     ensures bytes { IfOk result (λ dat. dat.bytes ≡ dat_bytes (file_setting named.now.kinds named.now.children.now) start (source_of named.now.file.now)) }
-    ensures labels { IfOk result (λ dat. dat.labels ≡ labels_of named.now.kinds (placed_lines (file_setting named.now.kinds named.now.children.now) start (source_of named.now.file.now))) }
+    ensures labels { IfOk result (λ dat. dat.labels ≡
+        labels_of named.now.kinds (placed_lines (file_setting named.now.kinds named.now.children.now) start (source_of named.now.file.now))) }
     ensures clean { OnOk result ((f : Fault) → ¬ IsDatFault (file_setting named.now.kinds named.now.children.now) start (source_of named.now.file.now) f) }
-    ensures refused { IfErr result (IfRefused (IsFirstFault (IsDatFault (file_setting named.now.kinds named.now.children.now) start (source_of named.now.file.now)))) }
+    ensures refused { IfErr result (IfRefused (IsFirstFault
+        (IsDatFault (file_setting named.now.kinds named.now.children.now) start (source_of named.now.file.now)))) }
 {
     let counts = consts_of(alloc, &named.kinds, named.children)?;
     let values = consts_of(alloc, &named.kinds, named.children)?;

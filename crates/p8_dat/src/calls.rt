@@ -2,13 +2,13 @@
 ghost use Rattle.std.specs.Prelude.{◌≡◌, ◌<◌, ◌++◌, ◌%◌, ◌==◌, ◌||◌, not, Some, IfOk, option_map, codes};
 ghost use Rattle.p8_tree.specs.Faults.{fault};
 ghost use Rattle.p8_tree.specs.declared.refusal.Refusal.TheVariants.{OperandRange};
-ghost use Rattle.p8_kinds.specs.Values.{where_so};
+ghost use Rattle.p8_fold.specs.Values.{where_so};
 ghost use Rattle.p8_tree.specs.Views.{tree_of};
-ghost use Rattle.p8_kinds.specs.ConstantEntries.{setting_of};
+ghost use Rattle.p8_fold.specs.ConstantEntries.{setting_of};
 ghost use Rattle.p8_dat.specs.Encoding.{is_address, field, return_meaning, end_meaning, return_fault, label_field};
 
 use crate::operands::{Operand, field, name_alone};
-use p8_kinds::{Consts, Meaning};
+use p8_fold::{Consts, Meaning};
 use p8_tree::{Expr, Place, Refusal, Text};
 use std::alloc::{AllocError, Global};
 

@@ -1,7 +1,7 @@
 // The bytes of data.
 ghost use Rattle.std.specs.Prelude.{◌≡◌, ◌++◌, None, OnOk, map};
 ghost use Rattle.p8_tree.specs.Views.{datum_of};
-ghost use Rattle.p8_kinds.specs.ConstantEntries.{setting_of};
+ghost use Rattle.p8_fold.specs.ConstantEntries.{setting_of};
 ghost use Rattle.p8_dat.specs.Bytes.{in_data, spots, value_bytes, text_bytes, elements_bytes, item_bytes, items_bytes};
 ghost use Rattle.p8_dat.specs.First.{told_in_elements, told_in_item, told_in_items};
 ghost use Rattle.p8_dat.specs.Placing.{unplaced};
@@ -10,7 +10,7 @@ use crate::output::Output;
 use crate::placing::{behind_item, size_of};
 use crate::spots::{LIMIT, Spot};
 use crate::values::{evaluate, number, string_of};
-use p8_kinds::Consts;
+use p8_fold::Consts;
 use p8_tree::{DatItem, first_of_two};
 use std::alloc::AllocError;
 
@@ -63,8 +63,11 @@ fn put_counted(
     counts: &Consts,
     values: &mut Consts,
 ) -> Result<(), AllocError>
-    ensures bytes { OnOk result (out.new.bytes.items ≡ out.old.bytes.items ++ elements_bytes (setting_of counts.now) (unplaced (setting_of values.old)) size None (datum_of item.now).value (datum_of item.now).count at) }
-    ensures fault { OnOk result (out.new.fault ≡ told_in_elements out.old.fault (setting_of counts.now) (unplaced (setting_of values.old)) None (datum_of item.now).value (datum_of item.now).count at) }
+    ensures bytes { OnOk result (out.new.bytes.items ≡
+        out.old.bytes.items ++ elements_bytes (setting_of counts.now) (unplaced (setting_of values.old)) size None (datum_of item.now).value
+        (datum_of item.now).count at) }
+    ensures fault { OnOk result (out.new.fault ≡ told_in_elements out.old.fault (setting_of counts.now) (unplaced (setting_of values.old)) None
+        (datum_of item.now).value (datum_of item.now).count at) }
     ensures names { OnOk result (unplaced (setting_of values.new) ≡ unplaced (setting_of values.old)) }
 {
     let count = number(&item.count, 1, counts);
@@ -82,7 +85,8 @@ fn put_item(
     counts: &Consts,
     values: &mut Consts,
 ) -> Result<(), AllocError>
-    ensures bytes { OnOk result (out.new.bytes.items ≡ out.old.bytes.items ++ item_bytes (setting_of counts.now) (unplaced (setting_of values.old)) size (datum_of item.now) at) }
+    ensures bytes { OnOk result (out.new.bytes.items ≡
+        out.old.bytes.items ++ item_bytes (setting_of counts.now) (unplaced (setting_of values.old)) size (datum_of item.now) at) }
     ensures fault { OnOk result (out.new.fault ≡ told_in_item out.old.fault (setting_of counts.now) (unplaced (setting_of values.old)) (datum_of item.now) at) }
     ensures names { OnOk result (unplaced (setting_of values.new) ≡ unplaced (setting_of values.old)) }
 {
@@ -102,8 +106,10 @@ pub(crate) fn put_items(
     counts: &Consts,
     values: &mut Consts,
 ) -> Result<(), AllocError>
-    ensures bytes { OnOk result (out.new.bytes.items ≡ out.old.bytes.items ++ items_bytes (setting_of counts.now) (unplaced (setting_of values.old)) size (map datum_of items.entry.now) at) }
-    ensures fault { OnOk result (out.new.fault ≡ told_in_items out.old.fault (setting_of counts.now) (unplaced (setting_of values.old)) size (map datum_of items.entry.now) at) }
+    ensures bytes { OnOk result (out.new.bytes.items ≡
+        out.old.bytes.items ++ items_bytes (setting_of counts.now) (unplaced (setting_of values.old)) size (map datum_of items.entry.now) at) }
+    ensures fault { OnOk result (out.new.fault ≡ told_in_items out.old.fault (setting_of counts.now) (unplaced (setting_of values.old)) size
+        (map datum_of items.entry.now) at) }
     ensures names { OnOk result (unplaced (setting_of values.new) ≡ unplaced (setting_of values.old)) }
 {
     while let [item, rest @ ..] = items {

@@ -3,8 +3,8 @@ ghost use Rattle.std.specs.Prelude.{◌≡◌, ◌++◌, MatchOption, OnOk, IfOk
 ghost use Rattle.p8_tree.specs.Views.{block_of, source_of};
 ghost use Rattle.p8_tree.specs.declared.faults.Fault.{Fault};
 ghost use Rattle.p8_tree.specs.Faults.{IsFirstFault};
-ghost use Rattle.p8_kinds.specs.ConstantEntries.{setting_of};
-ghost use Rattle.p8_kinds.specs.Meanings.{outside_operands};
+ghost use Rattle.p8_fold.specs.ConstantEntries.{setting_of};
+ghost use Rattle.p8_fold.specs.Meanings.{outside_operands};
 ghost use Rattle.p8_dat.specs.Spots.{placed, behind_lines};
 ghost use Rattle.p8_dat.specs.Names.{hidden, without_labels, with_common};
 ghost use Rattle.p8_dat.specs.Blocks.{block_lines, dat_lines, first_spot, counts_setting, placed_lines, dat_bytes, IsDatFault};
@@ -15,7 +15,7 @@ use crate::output::Output;
 use crate::placing::{Placed, place_lines};
 use crate::regions::put_regions;
 use crate::spots::Spot;
-use p8_kinds::Consts;
+use p8_fold::Consts;
 use p8_tree::{Block, SourceFile};
 use p8_words::NoMemory;
 use std::alloc::{AllocError, Global};
@@ -63,7 +63,8 @@ fn place_block<'a>(
     counts: &Consts,
     places: &mut Vec<Placed<'a>>,
 ) -> Result<Spot, AllocError>
-    ensures placed { OnOk result (map placed_of places.new.items ≡ map placed_of places.old.items ++ placed (setting_of counts.now) (block_lines (block_of block.now)) from) }
+    ensures placed { OnOk result (map placed_of places.new.items ≡
+        map placed_of places.old.items ++ placed (setting_of counts.now) (block_lines (block_of block.now)) from) }
     ensures behind { IfOk result (λ p. p ≡ behind_lines (setting_of counts.now) (block_lines (block_of block.now)) from) }
 {
     match block {
@@ -78,7 +79,8 @@ fn place_blocks<'a>(
     counts: &Consts,
     places: &mut Vec<Placed<'a>>,
 ) -> Result<(), AllocError>
-    ensures { OnOk result (map placed_of places.new.items ≡ map placed_of places.old.items ++ placed (setting_of counts.now) (dat_lines (map block_of blocks.entry.now)) from) }
+    ensures { OnOk result (map placed_of places.new.items ≡
+        map placed_of places.old.items ++ placed (setting_of counts.now) (dat_lines (map block_of blocks.entry.now)) from) }
 {
     while let [block, rest @ ..] = blocks {
         from = place_block(block, from, counts, places)?;
@@ -99,7 +101,8 @@ pub(crate) fn assemble_file<'a>(
     requires here { (setting_of values.old).here ≡ outside_operands None }
     ensures places { IfOk result (λ a. map placed_of a.places.items ≡ placed_lines (setting_of values.old) start (source_of file.now)) }
     ensures bytes { IfOk result (λ a. a.out.bytes.items ≡ dat_bytes (setting_of values.old) start (source_of file.now)) }
-    ensures fault { IfOk result (λ a. MatchOption a.out.fault ((f : Fault) → ¬ IsDatFault (setting_of values.old) start (source_of file.now) f) (IsFirstFault (IsDatFault (setting_of values.old) start (source_of file.now)))) }
+    ensures fault { IfOk result (λ a. MatchOption a.out.fault ((f : Fault) → ¬ IsDatFault (setting_of values.old) start (source_of file.now) f)
+        (IsFirstFault (IsDatFault (setting_of values.old) start (source_of file.now)))) }
 {
     without_labels(file, counts)?;
     let first = Spot {

@@ -4,15 +4,15 @@ ghost use Rattle.std.specs.Str.{bytes_eq};
 ghost use Rattle.p8_tree.specs.Views.{instruction_of};
 ghost use Rattle.p8_tree.specs.declared.faults.Fault.{Fault};
 ghost use Rattle.p8_tree.specs.Faults.{IsFirstFault};
-ghost use Rattle.p8_kinds.specs.ConstantEntries.{setting_of};
+ghost use Rattle.p8_fold.specs.ConstantEntries.{setting_of};
 ghost use Rattle.p8_instr.specs.Instruction.{FitsFields};
 ghost use Rattle.p8_dat.specs.Encoding.{bit, flags_of, instr_with, long_of_fields, long_of_line, FaultInInstruction};
 ghost use Rattle.p8_dat.specs.FirstOfLine.{first_in_instruction};
 
 use crate::calls::called;
 use crate::operands::operand_of;
+use p8_fold::Consts;
 use p8_instr::{FLAG_C, FLAG_I, FLAG_R, FLAG_Z, Instr, default_of, encode};
-use p8_kinds::Consts;
 use p8_tree::{Fault, InstrLine, first_of_two};
 use p8_words::NoMemory;
 use std::alloc::Global;
@@ -31,7 +31,8 @@ pub struct Encoded {
 /// Memory is taken for the name of a CALL's label `x_RET`.
 pub fn encode_line(alloc: Global, line: &InstrLine, consts: &Consts) -> Result<Encoded, NoMemory>
     ensures long { IfOk result (λ e. e.long ≡ long_of_line (setting_of consts.now) (instruction_of line.now)) }
-    ensures fault { IfOk result (λ e. MatchOption e.fault ((f : Fault) → ¬ FaultInInstruction (setting_of consts.now) (instruction_of line.now) f) (IsFirstFault (FaultInInstruction (setting_of consts.now) (instruction_of line.now)))) }
+    ensures fault { IfOk result (λ e. MatchOption e.fault ((f : Fault) → ¬ FaultInInstruction (setting_of consts.now) (instruction_of line.now) f)
+        (IsFirstFault (FaultInInstruction (setting_of consts.now) (instruction_of line.now)))) }
     ensures told { IfOk result (λ e. e.fault ≡ first_in_instruction (setting_of consts.now) (instruction_of line.now)) }
 {
     let source = operand_of(&line.source, line.source_place, consts);

@@ -1,13 +1,13 @@
 // What the labels mean, entered into the tables of names.
 ghost use Rattle.std.specs.Prelude.{◌≡◌, if◌then◌else◌, OnOk, map, fold};
 ghost use Rattle.p8_tree.specs.Views.{line_of};
-ghost use Rattle.p8_kinds.specs.ConstantEntries.{setting_of};
+ghost use Rattle.p8_fold.specs.ConstantEntries.{setting_of};
 ghost use Rattle.p8_dat.specs.Names.{with_label, is_named, label_at, hidden, common, with_common, with_local};
 ghost use Rattle.p8_dat.specs.Placing.{placed_of, without_local};
 
 use crate::placing::Placed;
 use crate::spots::Spot;
-use p8_kinds::{Consts, Meaning};
+use p8_fold::{Consts, Meaning};
 use p8_tree::{DatLine, Text};
 use p8_words::NoMemory;
 
@@ -79,7 +79,8 @@ pub(crate) fn enter_common(mut places: &[Placed], consts: &mut Consts) -> Result
 
 // Says what a line's label means to its region, if it is local.
 fn enter_local(label: &Option<Text>, meaning: Meaning, consts: &mut Consts) -> Result<(), NoMemory>
-    ensures { OnOk result (setting_of consts.new ≡ (if is_named label.now then setting_of consts.old else with_label label.now meaning (setting_of consts.old))) }
+    ensures { OnOk result (setting_of consts.new ≡ (if is_named label.now then setting_of consts.old else with_label label.now meaning
+        (setting_of consts.old))) }
 {
     if is_named(label) {
         Ok(())

@@ -3,7 +3,7 @@ ghost use Rattle.std.specs.Prelude.{◌≡◌, ℕ, ◌<◌, ◌^◌, codes};
 ghost use Rattle.p8_tree.specs.declared.places.Place.{Place};
 ghost use Rattle.p8_tree.specs.Sources.{Instruction};
 ghost use Rattle.p8_tree.specs.declared.faults.Fault.{Fault};
-ghost use Rattle.p8_kinds.specs.Meanings.{Setting};
+ghost use Rattle.p8_fold.specs.Meanings.{Setting};
 ghost use Rattle.p8_instr.specs.Instruction.{instr_of};
 ghost use Rattle.p8_dat.specs.Encoding.{long_of_line, FaultInInstruction};
 ghost use Rattle.p8_dat.specs.Printed.{printed_line};

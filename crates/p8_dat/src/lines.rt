@@ -2,9 +2,9 @@
 ghost use Rattle.std.specs.Prelude.{◌≡◌, ◌+◌, ◌/◌, ◌++◌, nat_lt, OnOk, map, option_map};
 ghost use Rattle.p8_tree.specs.Faults.{fault, first_of_two};
 ghost use Rattle.p8_tree.specs.declared.refusal.Refusal.TheVariants.{FitExceeded, OrgRange};
-ghost use Rattle.p8_kinds.specs.Values.{where_so};
+ghost use Rattle.p8_fold.specs.Values.{where_so};
 ghost use Rattle.p8_tree.specs.Views.{tree_of, contents_of, instruction_of};
-ghost use Rattle.p8_kinds.specs.ConstantEntries.{setting_of};
+ghost use Rattle.p8_fold.specs.ConstantEntries.{setting_of};
 ghost use Rattle.p8_dat.specs.Encoding.{long_of_line};
 ghost use Rattle.p8_dat.specs.FirstOfLine.{first_in_instruction};
 ghost use Rattle.p8_dat.specs.Bytes.{element, in_instruction, contents_bytes, line_bytes, lines_bytes};
@@ -18,7 +18,7 @@ use crate::output::Output;
 use crate::placing::Placed;
 use crate::spots::Spot;
 use crate::values::number;
-use p8_kinds::{Consts, value_of};
+use p8_fold::{Consts, value_of};
 use p8_tree::{DatBody, Expr, Fault, InstrLine, Place, Refusal, first_of_two};
 use p8_words::NoMemory;
 use std::alloc::Global;
@@ -40,8 +40,10 @@ fn put_instruction(
     at: Spot,
     values: &mut Consts,
 ) -> Result<(), NoMemory>
-    ensures bytes { OnOk result (out.new.bytes.items ≡ out.old.bytes.items ++ element 4 (long_of_line (in_instruction (unplaced (setting_of values.old)) at) (instruction_of line.now)) at) }
-    ensures fault { OnOk result (out.new.fault ≡ first_of_two out.old.fault (first_in_instruction (in_instruction (unplaced (setting_of values.old)) at) (instruction_of line.now))) }
+    ensures bytes { OnOk result (out.new.bytes.items ≡
+        out.old.bytes.items ++ element 4 (long_of_line (in_instruction (unplaced (setting_of values.old)) at) (instruction_of line.now)) at) }
+    ensures fault { OnOk result (out.new.fault ≡ first_of_two out.old.fault
+        (first_in_instruction (in_instruction (unplaced (setting_of values.old)) at) (instruction_of line.now))) }
     ensures names { OnOk result (unplaced (setting_of values.new) ≡ unplaced (setting_of values.old)) }
 {
     stand_at_instruction(values, at);
@@ -96,7 +98,9 @@ fn fit_fault(fit: Option<u32>, cog: u32, place: Place) -> Option<Fault>
 // Looks at the value of ORG.
 fn look_at_org(out: &mut Output, expr: &Option<Expr>, place: Place, counts: &Consts)
     ensures bytes { out.new.bytes ≡ out.old.bytes }
-    ensures fault { out.new.fault ≡ first_of_two out.old.fault (first_of_two (first_in_number (setting_of counts.now) (option_map tree_of expr.now)) (org_fault (setting_of counts.now) (option_map tree_of expr.now) place)) }
+    ensures fault { out.new.fault ≡ first_of_two out.old.fault
+        (first_of_two (first_in_number (setting_of counts.now) (option_map tree_of expr.now))
+        (org_fault (setting_of counts.now) (option_map tree_of expr.now) place)) }
 {
     let found = number(expr, 0, counts);
     out.tell(first_of_two(found.fault, org_fault(found.value, place)));
@@ -113,7 +117,9 @@ fn look_at_res(out: &mut Output, expr: &Option<Expr>, counts: &Consts)
 // Looks at the value of FIT, and whether the cog address keeps to it.
 fn look_at_fit(out: &mut Output, expr: &Option<Expr>, cog: u32, place: Place, counts: &Consts)
     ensures bytes { out.new.bytes ≡ out.old.bytes }
-    ensures fault { out.new.fault ≡ first_of_two out.old.fault (first_of_two (first_in_number (setting_of counts.now) (option_map tree_of expr.now)) (fit_fault (setting_of counts.now) (option_map tree_of expr.now) cog place)) }
+    ensures fault { out.new.fault ≡ first_of_two out.old.fault
+        (first_of_two (first_in_number (setting_of counts.now) (option_map tree_of expr.now))
+        (fit_fault (setting_of counts.now) (option_map tree_of expr.now) cog place)) }
 {
     let found = number(expr, 0, counts);
     let fit = fit_value(expr, counts);
@@ -130,8 +136,10 @@ fn put_contents(
     counts: &Consts,
     values: &mut Consts,
 ) -> Result<(), NoMemory>
-    ensures bytes { OnOk result (out.new.bytes.items ≡ out.old.bytes.items ++ contents_bytes (setting_of counts.now) (unplaced (setting_of values.old)) (contents_of body.now) at) }
-    ensures fault { OnOk result (out.new.fault ≡ told_in_contents out.old.fault (setting_of counts.now) (unplaced (setting_of values.old)) (contents_of body.now) at place) }
+    ensures bytes { OnOk result (out.new.bytes.items ≡
+        out.old.bytes.items ++ contents_bytes (setting_of counts.now) (unplaced (setting_of values.old)) (contents_of body.now) at) }
+    ensures fault { OnOk result (out.new.fault ≡ told_in_contents out.old.fault (setting_of counts.now) (unplaced (setting_of values.old))
+        (contents_of body.now) at place) }
     ensures names { OnOk result (unplaced (setting_of values.new) ≡ unplaced (setting_of values.old)) }
 {
     match body {
@@ -164,8 +172,10 @@ fn put_line(
     counts: &Consts,
     values: &mut Consts,
 ) -> Result<(), NoMemory>
-    ensures bytes { OnOk result (out.new.bytes.items ≡ out.old.bytes.items ++ line_bytes (setting_of counts.now) (unplaced (setting_of values.old)) (placed_of placed.entry)) }
-    ensures fault { OnOk result (out.new.fault ≡ told_in_contents out.old.fault (setting_of counts.now) (unplaced (setting_of values.old)) (placed_of placed.entry).line.contents (placed_of placed.entry).at (placed_of placed.entry).line.word_place) }
+    ensures bytes { OnOk result (out.new.bytes.items ≡
+        out.old.bytes.items ++ line_bytes (setting_of counts.now) (unplaced (setting_of values.old)) (placed_of placed.entry)) }
+    ensures fault { OnOk result (out.new.fault ≡ told_in_contents out.old.fault (setting_of counts.now) (unplaced (setting_of values.old))
+        (placed_of placed.entry).line.contents (placed_of placed.entry).at (placed_of placed.entry).line.word_place) }
     ensures names { OnOk result (unplaced (setting_of values.new) ≡ unplaced (setting_of values.old)) }
 {
     let Placed { line, from, at } = placed;
@@ -181,8 +191,10 @@ pub(crate) fn put_lines(
     counts: &Consts,
     values: &mut Consts,
 ) -> Result<(), NoMemory>
-    ensures bytes { OnOk result (out.new.bytes.items ≡ out.old.bytes.items ++ lines_bytes (setting_of counts.now) (unplaced (setting_of values.old)) (map placed_of region.entry.now)) }
-    ensures fault { OnOk result (out.new.fault ≡ told_in_lines out.old.fault (setting_of counts.now) (unplaced (setting_of values.old)) (map placed_of region.entry.now)) }
+    ensures bytes { OnOk result (out.new.bytes.items ≡
+        out.old.bytes.items ++ lines_bytes (setting_of counts.now) (unplaced (setting_of values.old)) (map placed_of region.entry.now)) }
+    ensures fault { OnOk result (out.new.fault ≡ told_in_lines out.old.fault (setting_of counts.now) (unplaced (setting_of values.old))
+        (map placed_of region.entry.now)) }
     ensures names { OnOk result (unplaced (setting_of values.new) ≡ unplaced (setting_of values.old)) }
 {
     while let [placed, rest @ ..] = region {

@@ -1,14 +1,14 @@
 // The operands of an instruction.
 ghost use Rattle.std.specs.Prelude.{◌≡◌, ◌<◌, ◌||◌, not, Some, option_map};
 ghost use Rattle.p8_tree.specs.Views.{tree_of, variable_of};
-ghost use Rattle.p8_kinds.specs.ConstantEntries.{setting_of};
-ghost use Rattle.p8_kinds.specs.Values.{where_so};
+ghost use Rattle.p8_fold.specs.ConstantEntries.{setting_of};
+ghost use Rattle.p8_fold.specs.Values.{where_so};
 ghost use Rattle.p8_tree.specs.Faults.{fault};
 ghost use Rattle.p8_tree.specs.declared.refusal.Refusal.TheVariants.{OperandRange};
 ghost use Rattle.p8_dat.specs.Encoding.{is_address, field, field_of, name_of, name_alone, is_off_long, is_label_off_long};
 ghost use Rattle.p8_dat.specs.FirstOfLine.{first_in_operand};
 
-use p8_kinds::{Consts, Meaning, value_of};
+use p8_fold::{Consts, Meaning, value_of};
 use p8_tree::{Expr, ExprKind, Fault, Place, Refusal, Target, Text};
 
 // An operand's field, 0 where it is refused or isn't there, and why it is refused.

@@ -1,13 +1,13 @@
 // Where lines stand: a walk that needs no values but those of ORG and RES and of counts.
 ghost use Rattle.std.specs.Prelude.{◌≡◌, ◌++◌, map, option_map, OnOk, IfOk};
 ghost use Rattle.p8_tree.specs.Views.{tree_of, line_of, contents_of, datum_of};
-ghost use Rattle.p8_kinds.specs.ConstantEntries.{setting_of};
+ghost use Rattle.p8_fold.specs.ConstantEntries.{setting_of};
 ghost use Rattle.p8_dat.specs.Spots.{elements, string, size_of, behind_item, behind_items, begun, ended, placed, behind_lines};
 ghost use Rattle.p8_dat.specs.Placing.{placed_of};
 
 use crate::spots::{Spot, stopped};
 use crate::values::{number, string_of};
-use p8_kinds::Consts;
+use p8_fold::Consts;
 use p8_tree::{DatBody, DatItem, DatLine};
 use std::alloc::AllocError;
 
@@ -89,7 +89,8 @@ pub(crate) fn place_lines<'a>(
     counts: &Consts,
     places: &mut Vec<Placed<'a>>,
 ) -> Result<Spot, AllocError>
-    ensures placed { OnOk result (map placed_of places.new.items ≡ map placed_of places.old.items ++ placed (setting_of counts.now) (map line_of lines.entry.now) from) }
+    ensures placed { OnOk result (map placed_of places.new.items ≡
+        map placed_of places.old.items ++ placed (setting_of counts.now) (map line_of lines.entry.now) from) }
     ensures behind { IfOk result (λ p. p ≡ behind_lines (setting_of counts.now) (map line_of lines.entry.now) from) }
 {
     while let [line, rest @ ..] = lines {

@@ -1,6 +1,6 @@
 // Regions: the lines from one label of the whole file up to the next one, which see the same local labels.
 ghost use Rattle.std.specs.Prelude.{◌≡◌, ◌<◌, ◌≤◌, ◌++◌, length, drop, OnOk, map};
-ghost use Rattle.p8_kinds.specs.ConstantEntries.{setting_of};
+ghost use Rattle.p8_fold.specs.ConstantEntries.{setting_of};
 ghost use Rattle.p8_dat.specs.Names.{regions, names_in};
 ghost use Rattle.p8_dat.specs.Bytes.{lines_bytes};
 ghost use Rattle.p8_dat.specs.Blocks.{regions_bytes};
@@ -11,7 +11,7 @@ use crate::labels::{enter_locals, is_named, leave_locals};
 use crate::lines::put_lines;
 use crate::output::Output;
 use crate::placing::Placed;
-use p8_kinds::Consts;
+use p8_fold::Consts;
 use p8_words::NoMemory;
 use std::alloc::Global;
 
@@ -60,8 +60,11 @@ fn put_region(
     values: &mut Consts,
 ) -> Result<(), NoMemory>
     requires { AreHidden (unplaced (setting_of values.old)) (map placed_of region.now) }
-    ensures bytes { OnOk result (out.new.bytes.items ≡ out.old.bytes.items ++ lines_bytes (setting_of counts.now) (names_in (unplaced (setting_of values.old)) (map placed_of region.now)) (map placed_of region.now)) }
-    ensures fault { OnOk result (out.new.fault ≡ told_in_lines out.old.fault (setting_of counts.now) (names_in (unplaced (setting_of values.old)) (map placed_of region.now)) (map placed_of region.now)) }
+    ensures bytes { OnOk result (out.new.bytes.items ≡
+        out.old.bytes.items ++ lines_bytes (setting_of counts.now) (names_in (unplaced (setting_of values.old)) (map placed_of region.now))
+        (map placed_of region.now)) }
+    ensures fault { OnOk result (out.new.fault ≡ told_in_lines out.old.fault (setting_of counts.now)
+        (names_in (unplaced (setting_of values.old)) (map placed_of region.now)) (map placed_of region.now)) }
     ensures names { OnOk result (unplaced (setting_of values.new) ≡ unplaced (setting_of values.old)) }
 {
     enter_locals(region, values)?;
@@ -79,8 +82,10 @@ pub(crate) fn put_regions(
     values: &mut Consts,
 ) -> Result<(), NoMemory>
     requires { AreHidden (unplaced (setting_of values.old)) (map placed_of places.now) }
-    ensures bytes { OnOk result (out.new.bytes.items ≡ out.old.bytes.items ++ regions_bytes (setting_of counts.now) (unplaced (setting_of values.old)) (regions (map placed_of places.entry.now))) }
-    ensures fault { OnOk result (out.new.fault ≡ told_in_regions out.old.fault (setting_of counts.now) (unplaced (setting_of values.old)) (regions (map placed_of places.entry.now))) }
+    ensures bytes { OnOk result (out.new.bytes.items ≡
+        out.old.bytes.items ++ regions_bytes (setting_of counts.now) (unplaced (setting_of values.old)) (regions (map placed_of places.entry.now))) }
+    ensures fault { OnOk result (out.new.fault ≡ told_in_regions out.old.fault (setting_of counts.now) (unplaced (setting_of values.old))
+        (regions (map placed_of places.entry.now))) }
 {
     while !places.is_empty() {
         let length = region_length(places);

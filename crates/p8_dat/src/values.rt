@@ -1,12 +1,12 @@
 // Values of expressions, with what is wrong with them.
 ghost use Rattle.std.specs.Prelude.{◌≡◌, Some, None, option_map, unwrap_or};
 ghost use Rattle.p8_tree.specs.Views.{tree_of};
-ghost use Rattle.p8_kinds.specs.ConstantEntries.{setting_of};
-ghost use Rattle.p8_kinds.specs.Values.{value};
+ghost use Rattle.p8_fold.specs.ConstantEntries.{setting_of};
+ghost use Rattle.p8_fold.specs.Values.{value};
 ghost use Rattle.p8_dat.specs.Spots.{number, string};
 ghost use Rattle.p8_dat.specs.First.{first_in, first_in_number};
 
-use p8_kinds::{Consts, value_of};
+use p8_fold::{Consts, value_of};
 use p8_tree::{Expr, ExprKind, Fault, Text};
 
 // A value, 0 where it is refused, and the first reason for that.

@@ -10,7 +10,8 @@ use Rattle.p8_declarations.specs.declared.data_row.Row.{Row}
 use Rattle.p8_declarations.specs.declared.lines.Head.{Head}
 use Rattle.p8_declarations.specs.declared.items.Stage as code_stage
 use Rattle.p8_declarations.specs.declared.items.Stage.TheVariants as stage_case
-use Rattle.p8_declarations.specs.DataParts.{Part, line_end, colon, comma, hash, left_bracket, right_bracket, size, org, res, fit, condition, effect, jump, other, name, behind_colon, text, tree, parts}
+use Rattle.p8_declarations.specs.DataParts.{Part, line_end, colon, comma, hash, left_bracket, right_bracket, size, org, res, fit, condition, effect}
+use Rattle.p8_declarations.specs.DataParts.{jump, other, name, behind_colon, text, tree, parts}
 use Rattle.p8_declarations.specs.Lines.{Stage, before, behind, open_bracket, counted, over, items, effects, blank}
 
 abbrev pub part_of : code.Part → Part

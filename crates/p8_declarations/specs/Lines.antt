@@ -9,7 +9,8 @@ use Rattle.p8_lexer.specs.declared.word.Word.{Word}
 use Rattle.p8_lexer.specs.declared.word.Word.TheVariants.{Jmp}
 use Rattle.p8_lexer.specs.Words.{spelling}
 use Rattle.p8_lexer.specs.Pieces.{Piece}
-use Rattle.p8_declarations.specs.DataParts.{Part, colon, comma, hash, left_bracket, right_bracket, size, org, res, fit, condition, effect, jump, other, name, behind_colon, text, tree, place_of, parts}
+use Rattle.p8_declarations.specs.DataParts.{Part, colon, comma, hash, left_bracket, right_bracket, size, org, res, fit, condition, effect, jump}
+use Rattle.p8_declarations.specs.DataParts.{other, name, behind_colon, text, tree, place_of, parts}
 
 -- a local label's name: `:` and its letters
 abbrev pub local : List ℕ → List ℕ

@@ -8,7 +8,8 @@ use Rattle.p8_tree.specs.declared.sources.VarItem.{VarItem}
 use Rattle.p8_tree.specs.declared.sources.ObjItem.{ObjItem}
 use Rattle.p8_declarations.specs.Objects.{child}
 use Rattle.p8_lexer.specs.Pieces.{pieces_of}
-use Rattle.p8_declarations.specs.Parts.{Part, line_end, comma, equals, hash, colon, bar, left_parenthesis, right_parenthesis, left_bracket, right_bracket, size, name, text, tree, other, parts, is_line_end, with_first}
+use Rattle.p8_declarations.specs.Parts.{Part, line_end, comma, equals, hash, colon, bar, left_parenthesis, right_parenthesis, left_bracket}
+use Rattle.p8_declarations.specs.Parts.{right_bracket, size, name, text, tree, other, parts, is_line_end, with_first}
 use Rattle.p8_declarations.specs.declared.part.Part as code
 use Rattle.p8_declarations.specs.declared.part.Part.TheVariants as code_case
 use Rattle.p8_declarations.specs.declared.row.Row.{Row}

@@ -109,7 +109,8 @@ fn from_end(
     count: Option<Expr>,
     part: Part,
 ) -> Result<Option<Stage>, NoMemory>
-    ensures { IfOk result (λ s. Steps (map datum_of read.old) (over size (tree_of value) (option_map tree_of count)) (part_of part) (map datum_of read.new) (option_map stage_of s)) }
+    ensures { IfOk result (λ s. Steps (map datum_of read.old) (over size (tree_of value) (option_map tree_of count)) (part_of part)
+        (map datum_of read.new) (option_map stage_of s)) }
 {
     match part {
         Part::Comma => {

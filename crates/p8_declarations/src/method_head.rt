@@ -210,7 +210,8 @@ impl Row {
     // Takes a parameter with the comma or the parenthesis after it, and says whether it is the parenthesis.
     #[tactic(auto, using(crate::proofs::Rows::no_parameter))]
     fn parameter(&mut self) -> Option<(Text, Place, bool)>
-        ensures { MatchOption result ((m : MethodTree) → parameters m (parts_in self.old) ≡ None) (λ x. parts_in self.old ≡ name x.0 x.1 ∷ (if x.2 then right_parenthesis else comma) ∷ parts_in self.new) }
+        ensures { MatchOption result ((m : MethodTree) → parameters m (parts_in self.old) ≡ None)
+            (λ x. parts_in self.old ≡ name x.0 x.1 ∷ (if x.2 then right_parenthesis else comma) ∷ parts_in self.new) }
     {
         let (name, place) = self.name()?;
         match self.next()? {

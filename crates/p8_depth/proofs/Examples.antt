@@ -7,7 +7,7 @@ use Rattle.p8_tree.specs.Expressions.{Tree, node, Number, Var, Call, Binary, Ass
 use Rattle.p8_tree.specs.Statements.{Forever, Count, After, From, statement, Action, Do, If, Case, Repeat, Next, Quit, Return, Abort, arm, nothing_else, otherwise, Statements, no_statements, ◌▹◌, no_arms, ◌⊳◌}
 use Rattle.p8_kinds.specs.declared.name_kinds.NameKind.{NameKind}
 use Rattle.p8_kinds.specs.declared.name_kinds.NameKind.TheVariants as kinds
-use Rattle.p8_kinds.specs.Meanings.{outside_operands}
+use Rattle.p8_fold.specs.Meanings.{outside_operands}
 use Rattle.p8_bytecode.specs.Table.{rows}
 use Rattle.p8_gen.specs.Names.{Names, all_wide}
 use Rattle.p8_gen.specs.Methods.{method_code, bytes_of}

@@ -4,7 +4,8 @@
 -- body. So the first entry is the method's begin, with nothing on the stack. Where a place is depends neither on the targets of jumps nor on
 -- what stands before it, but on how many bytes and jumps do, and so a piece is told 0 for what doesn't count.
 use Rattle.std.specs.Prelude.{ℕ, ◌+◌, Bool, true, false, if◌then◌else◌, List, [], ◌∷◌, ◌++◌, Option, None}
-use Rattle.p8_tree.specs.Statements.{Course, Forever, Count, Before, After, From, statement, Action, If, Case, Repeat, arm, Otherwise, nothing_else, otherwise, Statements, no_statements, ◌▹◌, Arms, no_arms, ◌⊳◌}
+use Rattle.p8_tree.specs.Statements.{Course, Forever, Count, Before, After, From, statement, Action, If, Case, Repeat, arm, Otherwise, nothing_else}
+use Rattle.p8_tree.specs.Statements.{otherwise, Statements, no_statements, ◌▹◌, Arms, no_arms, ◌⊳◌}
 use Rattle.p8_gen.specs.Names.{Names}
 use Rattle.p8_gen.specs.Pieces.{from_place, Piece, nothing, one, ◌⨾◌, byte, jump}
 use Rattle.p8_gen.specs.Variables.{home_of, plain_op, Pop}

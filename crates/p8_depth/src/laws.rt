@@ -19,6 +19,9 @@ ghost use Rattle.p8_depth.specs.Paths.{IsComeTo, IsDepth};
 /// The method is one whose names were resolved, its bytecodes are such as there are, and its code has fewer than 2^32 bytes.
 pub fn depth_is_the_most_along_paths()
     ensures begins { (names : Names) → (ss : Statements) → Contains (entries_of_method names ss) (0, 0) }
-    ensures depth { (names : Names) → (m : MethodTree) → (code : MethodCode) → AreResolved names m.body → IsCodeOf names m code → All IsOp (method_code names m.body).ops → length code.bytes < 2 ^ 32 → IsDepth code.bytes (entries_of_method names m.body) code.depth }
-    ensures everywhere { (names : Names) → (m : MethodTree) → (code : MethodCode) → AreResolved names m.body → IsCodeOf names m code → All IsOp (method_code names m.body).ops → length code.bytes < 2 ^ 32 → All (IsComeTo code.bytes (entries_of_method names m.body)) (map line_of code.lines) }
+    ensures depth { (names : Names) → (m : MethodTree) → (code : MethodCode) → AreResolved names m.body → IsCodeOf names m code →
+        All IsOp (method_code names m.body).ops → length code.bytes < 2 ^ 32 → IsDepth code.bytes (entries_of_method names m.body) code.depth }
+    ensures everywhere { (names : Names) → (m : MethodTree) → (code : MethodCode) → AreResolved names m.body → IsCodeOf names m code →
+        All IsOp (method_code names m.body).ops → length code.bytes < 2 ^ 32 →
+        All (IsComeTo code.bytes (entries_of_method names m.body)) (map line_of code.lines) }
 {}

@@ -31,7 +31,8 @@ pub record RidesIn (w : World) (me : Hand) (riders : List (Option Rider)) (n : �
 -- a seat that has the passes below a place, and no others
 pub record Gathered (w : World) (places : List (Option PassValue)) (riders : List (Option Rider)) (k : ℕ) (me : Hand) : Type 0 where
   pub idle : Idle w me
-  pub each : (n : ℕ) (pass : PassValue) → n < k → slice_get places n ≡ Some (Some pass) → (one : RidesIn w me riders n) × (steps_of one.p ≡ pass.steps) × (one.rider.over ≡ pass.over)
+  pub each : (n : ℕ) (pass : PassValue) → n < k → slice_get places n ≡ Some (Some pass) →
+      (one : RidesIn w me riders n) × (steps_of one.p ≡ pass.steps) × (one.rider.over ≡ pass.over)
   pub none_from : (n : ℕ) → k ≤ n → known me.0.passes n ≡ None
 
 -- a seat that has all of them

@@ -84,7 +84,8 @@ impl Desk {
         requires { Owns self.now pass.old }
         ensures owns { Owns self.now pass.new }
         ensures cog { pass.new.cog ≡ pass.old.cog }
-        ensures done { IfSome result (λ turn. (before : PassSteps) × Waited pass.old.steps before × Tried self.now.world pass.old.cog before pass.new.steps (Done turn)) }
+        ensures done { IfSome result (λ turn. (before : PassSteps) × Waited pass.old.steps before ×
+            Tried self.now.world pass.old.cog before pass.new.steps (Done turn)) }
         ensures none { IfNone result ((before : PassSteps) × Waited pass.old.steps before × Tried self.now.world pass.old.cog before pass.new.steps Over) }
         ensures over { IfNone result (pass.new.over ≡ true) }
     {

@@ -34,7 +34,8 @@ fn take_apart(pass: CogPass) -> (Place, Rider)
 fn take_seat(passes: &mut Passes, riders: &mut Riders, cog: u8) -> Place
     requires there { (cog < 8) × (pass : PassValue) × (slice_get passes.old cog ≡ Some (Some pass)) }
     requires room { length riders.old ≡ 8 }
-    ensures own { (pass : PassValue) → slice_get passes.old cog ≡ Some (Some pass) → (rider : Rider) × (riders.new ≡ slice_set riders.old cog (Some rider)) × PartsOf pass result.table_id result.me rider }
+    ensures own { (pass : PassValue) → slice_get passes.old cog ≡ Some (Some pass) →
+        (rider : Rider) × (riders.new ≡ slice_set riders.old cog (Some rider)) × PartsOf pass result.table_id result.me rider }
     ensures left { passes.new ≡ slice_set passes.old cog None }
 {
     match passes.take(cog) {
@@ -79,8 +80,10 @@ fn put_back(passes: &mut Passes, seat: Place, rider: Rider, count: u64)
 
 /// Puts a pass together whose seat is given and that lies at its place among the riders.
 fn put_next(passes: &mut Passes, seat: Place, riders: &mut Riders, cog: u8, count: u64)
-    requires there { (cog < 8) × (rider : Rider) × (slice_get riders.old cog ≡ Some (Some rider)) × (rider.cog ≡ cog) × Seated seat.me rider × (count ≡ length (turns (pass_in seat.me rider.cog).seen)) × IsOut cog passes.old }
-    ensures put { (rider : Rider) → slice_get riders.old cog ≡ Some (Some rider) → passes.new ≡ slice_set passes.old cog (Some (passed seat.table_id seat.me cog rider.over)) }
+    requires there { (cog < 8) × (rider : Rider) × (slice_get riders.old cog ≡ Some (Some rider)) × (rider.cog ≡ cog) × Seated seat.me rider ×
+        (count ≡ length (turns (pass_in seat.me rider.cog).seen)) × IsOut cog passes.old }
+    ensures put { (rider : Rider) → slice_get riders.old cog ≡ Some (Some rider) →
+        passes.new ≡ slice_set passes.old cog (Some (passed seat.table_id seat.me cog rider.over)) }
     ensures left { riders.new ≡ slice_set riders.old cog None }
 {
     match riders[cog as usize].take() {

@@ -94,7 +94,8 @@ impl Rider {
         requires stands { (w : World) × (r : Record) × (script.now ≡ w.script) × (w.turns < 2 ^ 63) × Found w ledger.old r × Carries w r self.old }
         ensures cog { self.new.cog ≡ self.old.cog }
         ensures over { self.new.over ≡ (self.old.over || is_over result.answer) }
-        ensures worked { (w : World) (r : Record) → script.now ≡ w.script → Found w ledger.old r → Carries w r self.old → Worked w self.old.cog self.old.runner.next r result ledger.new self.new }
+        ensures worked { (w : World) (r : Record) → script.now ≡ w.script → Found w ledger.old r → Carries w r self.old →
+            Worked w self.old.cog self.old.runner.next r result ledger.new self.new }
     {
         let said = speak(ledger, &mut self.runner, self.cog);
         let taken = ledger.take(script, self.cog);
@@ -112,10 +113,13 @@ impl Rider {
     fn work_in_slot(&mut self, desk: &Desk, seat: &mut Place) -> Outcome
         requires own { (seat.old.table_id ≡ desk.now.table) × (self.old.cog < 8) }
         requires found { HasFound self.old.runner }
-        requires has { (ledger : Ledger) × (r : Record) × (seat.old.me.1 ≡ (0, Some ledger) ∷ []) × Found desk.now.world ledger r × Carries desk.now.world r self.old }
+        requires has { (ledger : Ledger) × (r : Record) × (seat.old.me.1 ≡ (0, Some ledger) ∷ []) × Found desk.now.world ledger r ×
+            Carries desk.now.world r self.old }
         ensures own { (seat.new.table_id ≡ seat.old.table_id) × (self.new.cog ≡ self.old.cog) }
         ensures over { self.new.over ≡ (self.old.over || is_over result.answer) }
-        ensures worked { (ledger : Ledger) (r : Record) → seat.old.me.1 ≡ (0, Some ledger) ∷ [] → Found desk.now.world ledger r → Carries desk.now.world r self.old → (left : Ledger) × (seat.new.me ≡ (seat.old.me.0, (0, Some left) ∷ [])) × Worked desk.now.world self.old.cog self.old.runner.next r result left self.new }
+        ensures worked { (ledger : Ledger) (r : Record) → seat.old.me.1 ≡ (0, Some ledger) ∷ [] → Found desk.now.world ledger r →
+            Carries desk.now.world r self.old → (left : Ledger) × (seat.new.me ≡ (seat.old.me.0, (0, Some left) ∷ [])) ×
+            Worked desk.now.world self.old.cog self.old.runner.next r result left self.new }
     {
         match seat.slot_mut(&desk.table.shared, 0) {
             Some(ledger) => self.work(&desk.start.script, ledger),
@@ -131,7 +135,8 @@ impl Rider {
         requires pass { (p : Known) × (known_in seat.old.me.0.passes self.old.cog ≡ Some p) × Keeps desk.now.world p self.old }
         ensures own { (seat.new.table_id ≡ seat.old.table_id) × (self.new.cog ≡ self.old.cog) }
         ensures over { self.new.over ≡ (self.old.over || is_over result) }
-        ensures rode { (p : Known) → known_in seat.old.me.0.passes self.old.cog ≡ Some p → Keeps desk.now.world p self.old → Rode desk.now.world self.old.cog p seat.old.me seat.new.me self.new count.old count.new result }
+        ensures rode { (p : Known) → known_in seat.old.me.0.passes self.old.cog ≡ Some p → Keeps desk.now.world p self.old →
+            Rode desk.now.world self.old.cog p seat.old.me seat.new.me self.new count.old count.new result }
     {
         self.runner.find(desk.start.limits.clocks);
         let board = &desk.table.shared;

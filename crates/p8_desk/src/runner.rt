@@ -40,10 +40,14 @@ fn take_turn(life: &mut CogLife, memory: &Ram, state: CogState, turn: &Turn, run
     requires fits { Fits turn.now.access turn.now.answer }
     requires startable { (origin : Origin) → running ≡ false → state ≡ Running origin → IsStartable origin × IsWindow turn.now.key.cog turn.now.key.clock }
     ensures cog { ⟦<CogLife as Life>⟧.cog life.new ≡ turn.now.key.cog }
-    ensures takes { (b : Begun) (ts : List Turn) → running ≡ true → ⟦<CogLife as Life>⟧.stands life.old b ts → ⟦<CogLife as Life>⟧.stands life.new b (ts ++ turn.now ∷ []) }
-    ensures begins { (origin : Origin) → running ≡ false → state ≡ Running origin → ⟦<CogLife as Life>⟧.stands life.new (begun_by memory.now origin turn.now.key.cog turn.now.key.clock) [] }
-    ensures answered { running ≡ true → HasTaken (⟦<CogLife as Life>⟧.announced life.new) (⟦<CogLife as Life>⟧.reached life.new) (⟦<CogLife as Life>⟧.lead life.old) turn.now }
-    ensures anew { (origin : Origin) → running ≡ false → state ≡ Running origin → HasTaken (⟦<CogLife as Life>⟧.announced life.new) (⟦<CogLife as Life>⟧.reached life.new) (⟦<CogLife as Life>⟧.lead life.new) turn.now }
+    ensures takes { (b : Begun) (ts : List Turn) → running ≡ true → ⟦<CogLife as Life>⟧.stands life.old b ts →
+        ⟦<CogLife as Life>⟧.stands life.new b (ts ++ turn.now ∷ []) }
+    ensures begins { (origin : Origin) → running ≡ false → state ≡ Running origin →
+        ⟦<CogLife as Life>⟧.stands life.new (begun_by memory.now origin turn.now.key.cog turn.now.key.clock) [] }
+    ensures answered { running ≡ true → HasTaken (⟦<CogLife as Life>⟧.announced life.new) (⟦<CogLife as Life>⟧.reached life.new)
+        (⟦<CogLife as Life>⟧.lead life.old) turn.now }
+    ensures anew { (origin : Origin) → running ≡ false → state ≡ Running origin →
+        HasTaken (⟦<CogLife as Life>⟧.announced life.new) (⟦<CogLife as Life>⟧.reached life.new) (⟦<CogLife as Life>⟧.lead life.new) turn.now }
 {
     if running {
         life.take_answer(turn);

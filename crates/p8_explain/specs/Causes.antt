@@ -1,6 +1,7 @@
 -- What stands at the place where a line is refused by 6, in words (this project's profile). A line is what it shows, without the characters of its
 -- end, so nothing stands at the place of its end. Each sentence says what can be seen there, and is true of every source.
-use Rattle.std.specs.Prelude.{ℕ, suc, Bool, true, false, ◌==◌, ◌&&◌, ◌||◌, not, List, [], ◌∷◌, ◌++◌, length, take, drop, slice_index, codes, Option, Some, None, if◌then◌else◌}
+use Rattle.std.specs.Prelude.{ℕ, suc, Bool, true, false, ◌==◌, ◌&&◌, ◌||◌, not, List, [], ◌∷◌, ◌++◌, length, take, drop, slice_index, codes, Option}
+use Rattle.std.specs.Prelude.{Some, None, if◌then◌else◌}
 use Rattle.p8_lexer.specs.declared.word.Word.{Word}
 use Rattle.p8_lexer.specs.Lexing.{is_between, is_letter}
 use Rattle.p8_lexer.specs.Words.{word_spelled}

@@ -1,6 +1,8 @@
--- What a refusal or a missing file says to a person: where it is, the line with a mark under the place, what stands there, by how much it is too large, what is wrong and what often mends it. Places are
--- those of refusals: a line ends at LF, CR LF or CR, and a tab goes to the next column of the form 8k + 1.
-use Rattle.std.specs.Prelude.{ℕ, ◌-◌, ◌==◌, ◌&&◌, ◌||◌, not, nat_le, Bool, true, false, List, [], ◌∷◌, ◌++◌, length, take, drop, replicate, codes, Option, Some, None, if◌then◌else◌}
+-- What a refusal or a missing file says to a person: where it is, the line with a mark under the place, what stands there, by how much it is too
+-- large, what is wrong and what often mends it. Places are those of refusals: a line ends at LF, CR LF or CR, and a tab goes to the next column of
+-- the form 8k + 1.
+use Rattle.std.specs.Prelude.{ℕ, ◌-◌, ◌==◌, ◌&&◌, ◌||◌, not, nat_le, Bool, true, false, List, [], ◌∷◌, ◌++◌, length, take, drop, replicate, codes}
+use Rattle.std.specs.Prelude.{Option, Some, None, if◌then◌else◌}
 use Rattle.std.specs.Fmt.{decimal}
 use Rattle.p8_tree.specs.declared.places.Place.{Place}
 use Rattle.p8_tree.specs.declared.refusal.Refusal.{Refusal}

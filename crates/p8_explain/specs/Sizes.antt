@@ -1,5 +1,5 @@
--- How large what is refused as too large is, and by how much that is too large, and how many arguments a call has that is refused for their number, in words (this
--- project's profile).
+-- How large what is refused as too large is, and by how much that is too large, and how many arguments a call has that is refused for their number,
+-- in words (this project's profile).
 use Rattle.std.specs.Prelude.{ℕ, ◌-◌, ◌==◌, nat_lt, Bool, List, [], ◌++◌, codes, Option, Some, None, if◌then◌else◌}
 use Rattle.std.specs.Fmt.{decimal}
 use Rattle.p8_stmt.specs.declared.frames.MethodSize.{MethodSize}
@@ -40,7 +40,8 @@ things one more n = decimal n ++ (if n == 1 then one else more)
 
 -- a call
 abbrev pub of_arguments : (wanted given : ℕ) → List ℕ
-of_arguments wanted given = things (codes " argument is given, and ") (codes " arguments are given, and ") given ++ things (codes " is expected.\n") (codes " are expected.\n") wanted
+of_arguments wanted given = things (codes " argument is given, and ") (codes " arguments are given, and ") given ++
+    things (codes " is expected.\n") (codes " are expected.\n") wanted
 
 abbrev pub of_size : Option Size → List ℕ
 of_size None = []

@@ -106,7 +106,8 @@ slips =
     ∷ slip 6 (codes "DEFINE" ∷ codes "UNDEF" ∷ codes "IFDEF" ∷ codes "IFNDEF" ∷ codes "INCLUDE" ∷ []) any any
     (codes "The Manual has no preprocessor: define numbers in CON, and take in files by OBJ.")
     ∷ slip 9 any (codes "PI" ∷ []) any (codes "In thousandths PI is 3142.")
-    ∷ slip 9 any (codes "FLOAT" ∷ codes "ROUND" ∷ codes "TRUNC" ∷ []) any (codes "Where numbers are in thousandths, FLOAT(x) is x * 1000, and TRUNC(x) is x / 1000.")
+    ∷ slip 9 any (codes "FLOAT" ∷ codes "ROUND" ∷ codes "TRUNC" ∷ []) any
+    (codes "Where numbers are in thousandths, FLOAT(x) is x * 1000, and TRUNC(x) is x / 1000.")
     ∷ slip 10 any (codes "?" ∷ []) any (codes "There is no `?` here: write a generator of your own, as x := x * 1664525 + 1013904223.")
     ∷ slip 10 any (codes "CTRA" ∷ codes "CTRB" ∷ codes "FRQA" ∷ codes "FRQB" ∷ codes "PHSA" ∷ codes "PHSB" ∷ []) any
     (codes "There are no counters here: a loop with WAITCNT, in a cog of its own, makes such signals.")

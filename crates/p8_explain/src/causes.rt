@@ -1,7 +1,8 @@
 // What stands at the place where a line is refused.
 ghost use Rattle.std.specs.Prelude.{◌≡◌, ◌++◌, ◌&&◌, ◌==◌, ◌≤◌, ◌<◌, take, length, slice_index, OnOk};
 ghost use Rattle.p8_explain.specs.Causes.{is_of_word, word_length, is_spelled_so, symbol_at, token_at, ends_value, begins_value};
-ghost use Rattle.p8_explain.specs.Causes.{begins_token, last_begin, token_before, spaces, token_behind, is_reserved, is_empty_pair, are_beside, cause_of, cause_at, quoted, sentence, seen};
+ghost use Rattle.p8_explain.specs.Causes.{begins_token, last_begin, token_before, spaces, token_behind, is_reserved, is_empty_pair, are_beside};
+ghost use Rattle.p8_explain.specs.Causes.{cause_of, cause_at, quoted, sentence, seen};
 
 use crate::lines::{first_of, rest_of};
 use p8_instr::push_text;

@@ -2,7 +2,8 @@
 ghost use Rattle.std.specs.Prelude.{◌≡◌, ◌++◌, false, OnOk, IfOk};
 ghost use Rattle.p8_tree.specs.Refusals.{numbered};
 ghost use Rattle.p8_explain.specs.Slips.{forms, first_form, by_form};
-ghost use Rattle.p8_explain.specs.Explaining.{advice, said, found, told, line_or_none, sample, of_dot, begins_with_clock, is_script, of_script, closing, title, position, place_text, explanation_of, absence_of, entry_of};
+ghost use Rattle.p8_explain.specs.Explaining.{advice, said, found, told, line_or_none, sample, of_dot, begins_with_clock, is_script, of_script};
+ghost use Rattle.p8_explain.specs.Explaining.{closing, title, position, place_text, explanation_of, absence_of, entry_of};
 
 use crate::causes::{push_seen, token_at, token_before, token_behind};
 use crate::entries::{example, mends, says};
@@ -65,7 +66,8 @@ fn push_by_form(
     before: &[u8],
     here: &[u8],
 ) -> Result<(), NoMemory>
-    ensures { OnOk result (out.new.items ≡ out.old.items ++ by_form (first_form forms word.now) word.now (found (numbered fault.number) bytes.now before.now here.now fault.place)) }
+    ensures { OnOk result (out.new.items ≡ out.old.items ++
+        by_form (first_form forms word.now) word.now (found (numbered fault.number) bytes.now before.now here.now fault.place)) }
 {
     match form_at(word) {
         Some(arguments) => push_form(out, word, arguments),

@@ -41,7 +41,8 @@ pub data Ends (s : Setting) (limit : ℕ) (bytes : List ℕ) (tokens : List lexe
   -- the token after T is refused by itself
   unfit : {r : Refusal} → ¬ IsTooHigh s limit ts → refusal_at s bytes tokens end ≡ Some r → Ends s limit bytes tokens at end ts (refused r end)
   -- T is no expression, and the token after it is unexpected; T's last one where none follows
-  broken_off : ¬ IsTooHigh s limit ts → refusal_at s bytes tokens end ≡ None → ((e : Tree) → ¬ IsExpression s e ts) → Ends s limit bytes tokens at end ts (refused Unexpected (if nat_lt end (length tokens) then end else end - 1))
+  broken_off : ¬ IsTooHigh s limit ts → refusal_at s bytes tokens end ≡ None → ((e : Tree) → ¬ IsExpression s e ts) →
+      Ends s limit bytes tokens at end ts (refused Unexpected (if nat_lt end (length tokens) then end else end - 1))
 
 -- reading from the token `at` on ends so, where an expression may be as high as the limit
 abbrev pub Parses : Setting → ℕ → List ℕ → List lexer_token.Token → ℕ → Outcome → Type 0

@@ -11,7 +11,10 @@ use Rattle.p8_lexer.specs.declared.meaning.Meaning.TheVariants as meant
 use Rattle.p8_lexer.specs.Characters.{characters}
 use Rattle.p8_lexer.specs.Words.{capital, word_of}
 use Rattle.p8_lexer.specs.Meanings.{meaning}
-use Rattle.p8_grammar.specs.Lexemes.{Access, pins, input_pins, input, assembly, left_parenthesis, right_parenthesis, left_bracket, right_bracket, comma, colon, dot, dot_dot, hash, backslash, equal, Lexeme, number, name, method_result, string, mark, prefix_word, infix_word, sign, assigns, changes, address, object_address, size, register, here, string_word, constant_word, look, value, built_in, command, other, reserved, Token, token}
+use Rattle.p8_grammar.specs.Lexemes.{Access, pins, input_pins, input, assembly, left_parenthesis, right_parenthesis, left_bracket, right_bracket}
+use Rattle.p8_grammar.specs.Lexemes.{comma, colon, dot, dot_dot, hash, backslash, equal, Lexeme, number, name, method_result, string, mark}
+use Rattle.p8_grammar.specs.Lexemes.{prefix_word, infix_word, sign, assigns, changes, address, object_address, size, register, here, string_word}
+use Rattle.p8_grammar.specs.Lexemes.{constant_word, look, value, built_in, command, other, reserved, Token, token}
 
 -- punctuation
 abbrev pub mark_of_word : Word → Lexeme

@@ -119,8 +119,10 @@ fn longest_run(
 // Takes a token where what was taken and it begin an expression, and says whether they do.
 #[tactic(auto, unfolding(crate::specs::Words::token_of))]
 fn take(alloc: Global, bytes: &[u8], token: &Token, reader: &mut Reader) -> Result<bool, NoMemory>
-    ensures begins { (s : lexemes.Setting) (ts : List lexemes.Token) → HasTaken s ts reader.old → IfOk result (λ b. IsTrue b ↔ IsFront s (ts ++ token_of bytes.now token.now ∷ [])) }
-    ensures taken { (s : lexemes.Setting) (ts : List lexemes.Token) → HasTaken s ts reader.old → IfOk result (λ b. HasTaken s (if b then ts ++ token_of bytes.now token.now ∷ [] else ts) reader.new) }
+    ensures begins { (s : lexemes.Setting) (ts : List lexemes.Token) → HasTaken s ts reader.old →
+        IfOk result (λ b. IsTrue b ↔ IsFront s (ts ++ token_of bytes.now token.now ∷ [])) }
+    ensures taken { (s : lexemes.Setting) (ts : List lexemes.Token) → HasTaken s ts reader.old →
+        IfOk result (λ b. HasTaken s (if b then ts ++ token_of bytes.now token.now ∷ [] else ts) reader.new) }
 {
     let lexeme = lexeme(alloc, bytes, token)?;
     let begins = reader.take(alloc, token.place, lexeme)?;

@@ -51,7 +51,8 @@ fn picture(
 
 /// What is told of a history that has ended, with the pin script that it was made with.
 ///
-/// A dump isn't empty, and is in hub RAM. A history that is saved has at most 100,000,000 clocks and 40,000 turns by its limits. A pin is at most 31, and a bit has 2 to 10,000 clocks. The only error is want of memory.
+/// A dump isn't empty, and is in hub RAM. A history that is saved has at most 100,000,000 clocks and 40,000 turns by its limits. A pin is at most 31,
+/// and a bit has 2 to 10,000 clocks. The only error is want of memory.
 pub fn told(
     alloc: Global,
     ended: &Ended,
@@ -63,7 +64,8 @@ pub fn told(
     requires hub { IsHub (world_of ended.now.history.boot script.now ended.now.history.limits) (reverse ended.now.history.turns.list) ended.now.hub }
     ensures text { IfOk result (λ text. text.items
         ≡ told_by finish (world_of ended.now.history.boot script.now ended.now.history.limits) (reverse ended.now.history.turns.list)) }
-    ensures whole { IfOk result (λ _. IsWhole finish (world_of ended.now.history.boot script.now ended.now.history.limits) (reverse ended.now.history.turns.list)) }
+    ensures whole { IfOk result (λ _. IsWhole finish (world_of ended.now.history.boot script.now ended.now.history.limits)
+        (reverse ended.now.history.turns.list)) }
 {
     match finish {
         Finish::Trace { dump } => trace(alloc, ended, dump),

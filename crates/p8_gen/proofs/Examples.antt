@@ -9,7 +9,7 @@ use Rattle.p8_kinds.specs.declared.name_kinds.NameKind.{NameKind}
 use Rattle.p8_kinds.specs.declared.name_kinds.NameKind.TheVariants as kinds
 use Rattle.p8_bytecode.specs.Spelling.{spelled}
 use Rattle.p8_bytecode.specs.Table.{rows}
-use Rattle.p8_kinds.specs.Meanings.{outside_operands}
+use Rattle.p8_fold.specs.Meanings.{outside_operands}
 use Rattle.p8_gen.specs.Names.{Names, all_wide}
 use Rattle.p8_gen.specs.Pieces.{Piece, empty, ◌⨾◌, byte}
 use Rattle.p8_gen.specs.Statements.{body}

@@ -8,9 +8,9 @@ use Rattle.p8_tree.specs.Expressions.{Tree, node, Number, Str, Strings, Var, Cal
 use Rattle.p8_words.specs.Operators.{binary_values}
 use Rattle.p8_kinds.specs.declared.name_kinds.NameKind.{NameKind}
 use Rattle.p8_kinds.specs.declared.name_kinds.NameKind.TheVariants as kinds
-use Rattle.p8_kinds.specs.declared.meanings.Meaning.{Meaning}
-use Rattle.p8_kinds.specs.declared.meanings.Meaning.TheVariants as meaning
-use Rattle.p8_kinds.specs.Meanings.{outside_operands}
+use Rattle.p8_fold.specs.declared.meanings.Meaning.{Meaning}
+use Rattle.p8_fold.specs.declared.meanings.Meaning.TheVariants as meaning
+use Rattle.p8_fold.specs.Meanings.{outside_operands}
 use Rattle.p8_bytecode.specs.Spelling.{spelled}
 use Rattle.p8_bytecode.specs.Table.{rows}
 use Rattle.p8_gen.specs.Names.{Names, all_wide}

@@ -14,8 +14,8 @@ use Rattle.p8_tree.specs.declared.expressions.Target.TheVariants as target_case
 use Rattle.p8_tree.specs.Expressions.{Tree, node, Var, Variable, Named, Part, Memory, Register, no_index, index, Bits, whole, bits, Trees, no_trees, ◌▷◌, Items, Item, single, range, no_items, ◌▸◌}
 use Rattle.p8_tree.specs.Views.{tree_of, form_of, variable_of, call_of, trees_of, trees_after, item_of, items_of}
 use Rattle.p8_tree.specs.Bridges.{boxed_index, trees_of-push, items_of-push, strings_is, built_is, look_is}
-use Rattle.p8_kinds.specs.Verdicts.{boxed_bits}
-use Rattle.p8_kinds.proofs.ValueRows.{call_form}
+use Rattle.p8_fold.specs.Verdicts.{boxed_bits}
+use Rattle.p8_fold.proofs.ValueRows.{call_form}
 use Rattle.p8_gen.specs.declared.expressions.BuiltForm.TheVariants as built_form
 use Rattle.p8_gen.specs.Names.{Names}
 use Rattle.p8_gen.specs.Pieces.{Written, Piece, byte, text, ◌⨾◌, up_to_end}

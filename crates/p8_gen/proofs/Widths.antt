@@ -10,7 +10,7 @@ use Rattle.p8_bytecode.specs.Table.{rows}
 use Rattle.p8_kinds.specs.declared.name_kinds.NameKind.{NameKind}
 use Rattle.p8_kinds.specs.declared.name_kinds.NameKind.TheVariants as kinds
 use Rattle.p8_words.specs.Operators.{or_zero}
-use Rattle.p8_kinds.specs.Values as constants
+use Rattle.p8_fold.specs.Values as constants
 use Rattle.p8_gen.specs.Names.{Names, moved}
 use Rattle.p8_gen.specs.Pieces.{Written, Piece, empty, nothing, one, ◌⨾◌, from_start, up_to_end, up_to_jumps, of_statement, byte, text, jump, jumping, jump_size}
 use Rattle.p8_gen.specs.Variables.{number, Home, Operation, plain_op, home_of, Pop, assigned}

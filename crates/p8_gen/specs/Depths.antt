@@ -1,8 +1,11 @@
 -- How many longs the code of a method holds on the operand stack at once, on every way through it, also one that is never
 -- taken: for each form the most, counted from where the stack stood before it.
 use Rattle.std.specs.Prelude.{ℕ, ◌+◌, max, ◌==◌, ◌&&◌, not, if◌then◌else◌, Option, Some, None}
-use Rattle.p8_tree.specs.Expressions.{Tree, node, Form, Var, Call, Unary, Binary, Assign, Change, Address, ObjectAddress, Built, Look, Variable, Named, Part, Memory, Register, Index, no_index, index, Bits, whole, bits, single, range, Trees, no_trees, ◌▷◌, Items, no_items, ◌▸◌}
-use Rattle.p8_tree.specs.Statements.{Course, Forever, Count, Before, After, From, statement, Action, Do, If, Case, Repeat, Next, Quit, Return, Abort, arm, Otherwise, nothing_else, otherwise, Statements, no_statements, ◌▹◌, Arms, no_arms, ◌⊳◌}
+use Rattle.p8_tree.specs.Expressions.{Tree, node, Form, Var, Call, Unary, Binary, Assign, Change, Address, ObjectAddress, Built, Look, Variable}
+use Rattle.p8_tree.specs.Expressions.{Named, Part, Memory, Register, Index, no_index, index, Bits, whole, bits, single, range, Trees, no_trees, ◌▷◌}
+use Rattle.p8_tree.specs.Expressions.{Items, no_items, ◌▸◌}
+use Rattle.p8_tree.specs.Statements.{Course, Forever, Count, Before, After, From, statement, Action, Do, If, Case, Repeat, Next, Quit, Return, Abort}
+use Rattle.p8_tree.specs.Statements.{arm, Otherwise, nothing_else, otherwise, Statements, no_statements, ◌▹◌, Arms, no_arms, ◌⊳◌}
 use Rattle.p8_gen.specs.Names.{Names}
 use Rattle.p8_gen.specs.Expressions.{starts_method, count_of}
 

@@ -1,7 +1,7 @@
 -- What the names of a method mean to its code, and which of its jumps are wide.
 use Rattle.std.specs.Prelude.{ℕ, Bool, true, List, Option, unwrap_or, slice_get}
 use Rattle.p8_tree.specs.declared.places.Place.{Place}
-use Rattle.p8_kinds.specs.Meanings.{Setting}
+use Rattle.p8_fold.specs.Meanings.{Setting}
 use Rattle.p8_kinds.specs.declared.name_kinds.NameKind.{NameKind}
 
 pub record Names : Type 0 where

@@ -3,7 +3,9 @@ ghost use Rattle.std.specs.Prelude.{◌≡◌, OnOk};
 ghost use Rattle.p8_tree.specs.Views.{tree_of};
 ghost use Rattle.p8_tree.specs.Bridges.{boxed_index};
 ghost use Rattle.p8_gen.specs.Pieces.{Written};
-ghost use Rattle.p8_gen.specs.Expressions.{mark, own_method, method_number, method_in, callee, built_value, built_without, built_alone, built, dropped, is_method, calls_own, call_in, starts_method, start_of_method, starts, started, pasm, counts_from, unary, looks_down};
+ghost use Rattle.p8_gen.specs.Expressions.{mark, own_method, method_number, method_in, callee, built_value, built_without, built_alone, built};
+ghost use Rattle.p8_gen.specs.Expressions.{dropped, is_method, calls_own, call_in, starts_method, start_of_method, starts, started, pasm};
+ghost use Rattle.p8_gen.specs.Expressions.{counts_from, unary, looks_down};
 ghost use Rattle.p8_gen.specs.Scopes.{names_of};
 ghost use Rattle.p8_gen.specs.Writing.{Stands};
 

@@ -44,8 +44,10 @@ pub fn expr_code(
     labels: &List<Label>,
     method: u8,
 ) -> Result<Code, NoMemory>
-    ensures ops { IfOk result (λ code. code.ops ≡ (value (names_in named.now.kinds named.now.children.now labels.now method expr.now.place) (tree_of expr.now) empty).ops) }
-    ensures strings { IfOk result (λ code. map use_of code.strings ≡ (value (names_in named.now.kinds named.now.children.now labels.now method expr.now.place) (tree_of expr.now) empty).texts) }
+    ensures ops { IfOk result (λ code. code.ops ≡ (value (names_in named.now.kinds named.now.children.now labels.now method expr.now.place)
+        (tree_of expr.now) empty).ops) }
+    ensures strings { IfOk result (λ code. map use_of code.strings ≡
+        (value (names_in named.now.kinds named.now.children.now labels.now method expr.now.place) (tree_of expr.now) empty).texts) }
 {
     let tables = Tables::of(alloc, named, labels.as_slice())?;
     let coder = Coder {

@@ -2,8 +2,8 @@
 ghost use Rattle.std.specs.Prelude.{◌≡◌, ℕ, List, IfOk};
 ghost use Rattle.p8_tree.specs.Views.{tree_of};
 ghost use Rattle.p8_words.specs.Operators.{or_zero};
-ghost use Rattle.p8_kinds.specs.ConstantEntries.{setting_of};
-ghost use Rattle.p8_kinds.specs.Values.{value};
+ghost use Rattle.p8_fold.specs.ConstantEntries.{setting_of};
+ghost use Rattle.p8_fold.specs.Values.{value};
 ghost use Rattle.p8_kinds.specs.Kinds.{own};
 ghost use Rattle.p8_kinds.specs.FileSettings.{file_setting};
 ghost use Rattle.p8_kinds.specs.Publics.{public_of};
@@ -12,7 +12,8 @@ ghost use Rattle.p8_gen.specs.Labels.{offset_in};
 ghost use Rattle.p8_gen.specs.Scopes.{names_of};
 
 use crate::labels::Labels;
-use p8_kinds::{Consts, Kinds, Label, NameKind, Named, consts_of, publics_of, value_of};
+use p8_fold::{Consts, value_of};
+use p8_kinds::{Kinds, Label, NameKind, Named, consts_of, publics_of};
 use p8_tree::{Expr, Place, Text};
 use p8_words::NoMemory;
 use std::alloc::Global;

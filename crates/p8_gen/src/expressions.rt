@@ -4,11 +4,12 @@ ghost use Rattle.p8_tree.specs.Expressions as trees;
 ghost use Rattle.p8_tree.specs.Expressions.{no_items, ◌▸◌};
 ghost use Rattle.p8_tree.specs.Views.{tree_of, variable_of, call_of, trees_of, items_of, item_of};
 ghost use Rattle.p8_tree.specs.Bridges.{boxed_index};
-ghost use Rattle.p8_kinds.specs.Verdicts.{boxed_bits};
+ghost use Rattle.p8_fold.specs.Verdicts.{boxed_bits};
 ghost use Rattle.p8_gen.specs.Pieces.{Written, up_to_end};
 ghost use Rattle.p8_gen.specs.Variables as variables;
 ghost use Rattle.p8_gen.specs.Variables.{leaving, effect_for};
-ghost use Rattle.p8_gen.specs.Expressions.{value, value_of_form, operate, in_home, values, index_value, call_of_built, arguments, looks, alone, size_of, name_alone};
+ghost use Rattle.p8_gen.specs.Expressions.{value, value_of_form, operate, in_home, values, index_value, call_of_built, arguments, looks, alone};
+ghost use Rattle.p8_gen.specs.Expressions.{size_of, name_alone};
 ghost use Rattle.p8_gen.specs.Walking.{call_piece, started_value, looked, IsBuiltForm};
 ghost use Rattle.p8_gen.specs.Scopes.{names_of};
 ghost use Rattle.p8_gen.specs.Views.{home_in, operation_of};
@@ -69,7 +70,8 @@ impl Coder<'_> {
     // Appends the value of a variable, or of a name alone, whatever it names.
     #[cycle(expressions)]
     fn variable(&self, variable: &Target, out: &mut Writer) -> Result<(), AllocError>
-        ensures { (w : Written) → Stands out.old w → OnOk result (Stands out.new (value_of_form (names_of self.now) self.now.statement (trees.Var (variable_of variable.now)) w)) }
+        ensures { (w : Written) → Stands out.old w →
+            OnOk result (Stands out.new (value_of_form (names_of self.now) self.now.statement (trees.Var (variable_of variable.now)) w)) }
     {
         match variable {
             Target::Named(name, index, _) => self.named(name, index, out),
@@ -87,7 +89,9 @@ impl Coder<'_> {
         index: &Option<Box<Expr>>,
         out: &mut Writer,
     ) -> Result<(), AllocError>
-        ensures { (w : Written) → Stands out.old w → OnOk result (Stands out.new (value_of_form (names_of self.now) self.now.statement (trees.Var (trees.Named name.now (boxed_index index.now) self.now.statement)) w)) }
+        ensures { (w : Written) → Stands out.old w →
+            OnOk result (Stands out.new (value_of_form (names_of self.now) self.now.statement
+            (trees.Var (trees.Named name.now (boxed_index index.now) self.now.statement)) w)) }
     {
         match index {
             None => self.name_alone(name, out),
@@ -117,7 +121,8 @@ impl Coder<'_> {
         operation: Operation,
         out: &mut Writer,
     ) -> Result<(), AllocError>
-        ensures { (w : Written) → Stands out.old w → OnOk result (Stands out.new (operate (names_of self.now) (variable_of variable.now) (operation_of operation) w)) }
+        ensures { (w : Written) → Stands out.old w →
+            OnOk result (Stands out.new (operate (names_of self.now) (variable_of variable.now) (operation_of operation) w)) }
     {
         match variable {
             Target::Named(name, index, _) => self.in_home(self.home(name), index, operation, out),
@@ -141,7 +146,8 @@ impl Coder<'_> {
         operation: Operation,
         out: &mut Writer,
     ) -> Result<(), AllocError>
-        ensures { (w : Written) → Stands out.old w → OnOk result (Stands out.new (in_home (names_of self.now) (home_in home) (boxed_index index.now) (operation_of operation) w)) }
+        ensures { (w : Written) → Stands out.old w →
+            OnOk result (Stands out.new (in_home (names_of self.now) (home_in home) (boxed_index index.now) (operation_of operation) w)) }
     {
         match index {
             None => out.one(home.plain_op(operation)),
@@ -161,7 +167,9 @@ impl Coder<'_> {
         operation: Operation,
         out: &mut Writer,
     ) -> Result<(), AllocError>
-        ensures { (w : Written) → Stands out.old w → OnOk result (Stands out.new (operate (names_of self.now) (trees.Register address (boxed_bits bits.now) self.now.statement) (operation_of operation) w)) }
+        ensures { (w : Written) → Stands out.old w →
+            OnOk result (Stands out.new (operate (names_of self.now) (trees.Register address (boxed_bits bits.now) self.now.statement)
+            (operation_of operation) w)) }
     {
         match bits {
             None => out.register(0x3F, address, operation),
@@ -355,7 +363,8 @@ impl Coder<'_> {
 
     // Appends a name alone: a constant is a number, a method is called, a variable's value is pushed.
     fn name_alone(&self, name: &Text, out: &mut Writer) -> Result<(), AllocError>
-        ensures { (w : Written) → Stands out.old w → OnOk result (Stands out.new (name_alone (names_of self.now) name.now ((names_of self.now).kind name.now) w)) }
+        ensures { (w : Written) → Stands out.old w →
+            OnOk result (Stands out.new (name_alone (names_of self.now) name.now ((names_of self.now).kind name.now) w)) }
     {
         match self.kind(name) {
             Some(NameKind::Const(value)) => out.number(value),

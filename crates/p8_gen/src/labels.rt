@@ -1,6 +1,6 @@
 // The labels of a file's data.
 ghost use Rattle.std.specs.Prelude.{◌≡◌, ℕ, List, Some, OnOk, OnErr, IfOk};
-ghost use Rattle.p8_kinds.specs.ConstantEntries.{at_bytes};
+ghost use Rattle.p8_fold.specs.ConstantEntries.{at_bytes};
 ghost use Rattle.p8_words.specs.Operators.{or_zero};
 ghost use Rattle.std.specs.Option.{option_or};
 ghost use Rattle.p8_gen.specs.Files.{named_offset, first_offset};

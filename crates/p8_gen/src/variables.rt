@@ -2,7 +2,8 @@
 ghost use Rattle.std.specs.Prelude.{◌≡◌, ◌≤◌, ◌<◌, ◌+◌, OnOk};
 ghost use Rattle.p8_bytecode.specs.Reading.{bare};
 ghost use Rattle.p8_gen.specs.Pieces.{Written};
-ghost use Rattle.p8_gen.specs.Variables.{number, home_at, home_of, home_of_kind, memory_op, plain_op, register, effect_for, effect_by, leaving, assigned, counts, is_short, size_bits, base_bits, action_of, effect_of, operation_bits};
+ghost use Rattle.p8_gen.specs.Variables.{number, home_at, home_of, home_of_kind, memory_op, plain_op, register, effect_for, effect_by, leaving};
+ghost use Rattle.p8_gen.specs.Variables.{assigned, counts, is_short, size_bits, base_bits, action_of, effect_of, operation_bits};
 ghost use Rattle.p8_gen.specs.Expressions.{sized};
 ghost use Rattle.p8_gen.specs.Scopes.{names_of};
 ghost use Rattle.p8_gen.specs.Views.{base_of, home_in, operation_of};

@@ -3,7 +3,8 @@ ghost use Rattle.std.specs.Prelude.{◌≡◌, ◌≤◌, ◌+◌, ℕ, OnOk, So
 ghost use Rattle.std.specs.Bool.{OnTrue, OnFalse};
 ghost use Rattle.p8_bytecode.specs.Spelling.{spelled};
 ghost use Rattle.p8_gen.specs.Names.{wide_in};
-ghost use Rattle.p8_gen.specs.Pieces.{Written, empty, nowhere, from_place, one, byte, with_number, text, jump_by, jump, jumping, jump_size, offset, told, reach, is_near};
+ghost use Rattle.p8_gen.specs.Pieces.{Written, empty, nowhere, from_place, one, byte, with_number, text, jump_by, jump, jumping, jump_size, offset};
+ghost use Rattle.p8_gen.specs.Pieces.{told, reach, is_near};
 ghost use Rattle.p8_gen.specs.Uses.{way_of};
 ghost use Rattle.p8_gen.specs.Writing.{Stands};
 
@@ -194,7 +195,8 @@ impl Writer {
 
     // Keeps a bytecode, with which the code ends at a place, and the statement that it is made from.
     fn put(&mut self, op: Op, end: u32) -> Result<(), AllocError>
-        ensures { (w : Written) → Stands self.old w → OnOk result (Stands self.new (record w { ops = w.ops ++ op ∷ []; end = end; lines = w.lines ++ (w.end, w.statement) ∷ [] })) }
+        ensures { (w : Written) → Stands self.old w →
+            OnOk result (Stands self.new (record w { ops = w.ops ++ op ∷ []; end = end; lines = w.lines ++ (w.end, w.statement) ∷ [] })) }
     {
         let line = Line {
             offset: self.end,

@@ -1,7 +1,7 @@
 -- A project has one text of hints.
 use Rattle.std.proofs.Common.{◌≡◌, ◌∙◌, ap, sym, subst, refl, arith, ℕ, suc, ◌==◌, Bool, List, [], ◌∷◌, length, slice_get, Some}
 use Rattle.p8_tree.specs.Projects.{NamedSource}
-use Rattle.p8_kinds.specs.Meanings.{Setting}
+use Rattle.p8_fold.specs.Meanings.{Setting}
 use Rattle.p8_kinds.specs.declared.children.Children.{Children}
 use Rattle.p8_constants.specs.FileItems.{items}
 use Rattle.p8_names.specs.Children.{AreChildren}

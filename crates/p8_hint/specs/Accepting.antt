@@ -1,7 +1,7 @@
 -- internal: the hints of the files of an accepted project, by what was worked out of each.
 use Rattle.std.specs.Prelude.{◌≡◌, ℕ, List, length, slice_get, Some}
 use Rattle.p8_tree.specs.Projects.{NamedSource}
-use Rattle.p8_kinds.specs.ConstantEntries.{setting_of}
+use Rattle.p8_fold.specs.ConstantEntries.{setting_of}
 use Rattle.p8_constants.specs.Standing.{items_of}
 use Rattle.p8_names.specs.Kinds.{numbered}
 use Rattle.p8_build.specs.declared.accepting.AcceptedFile.{AcceptedFile}

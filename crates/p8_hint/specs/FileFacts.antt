@@ -4,7 +4,7 @@ use Rattle.std.specs.List.{flat_map}
 use Rattle.std.specs.Str.{bytes_eq}
 use Rattle.p8_tree.specs.Sources as trees
 use Rattle.p8_tree.specs.Sources.{Contents, MethodTree}
-use Rattle.p8_kinds.specs.Meanings.{Setting}
+use Rattle.p8_fold.specs.Meanings.{Setting}
 use Rattle.p8_constants.specs.FileItems.{Item, variable, method, line}
 use Rattle.p8_constants.specs.Rules.{count_in}
 use Rattle.p8_names.specs.Kinds.{numbered}

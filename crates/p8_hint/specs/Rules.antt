@@ -1,11 +1,13 @@
 -- The rules: what is accepted and is most likely a slip of the pen, and what isn't told because it may be meant (this project's profile; what the lines do is
 -- from the Propeller Manual v1.2).
-use Rattle.std.specs.Prelude.{ℕ, zero, suc, ◌*◌, ◌-◌, nat_lt, Bool, true, false, ◌==◌, ◌&&◌, ◌||◌, not, List, [], ◌∷◌, ◌++◌, length, drop, codes, Option, Some, None, is_some, if◌then◌else◌}
+use Rattle.std.specs.Prelude.{ℕ, zero, suc, ◌*◌, ◌-◌, nat_lt, Bool, true, false, ◌==◌, ◌&&◌, ◌||◌, not, List, [], ◌∷◌, ◌++◌, length, drop, codes}
+use Rattle.std.specs.Prelude.{Option, Some, None, is_some, if◌then◌else◌}
 use Rattle.std.specs.List.{flat_map}
 use Rattle.std.specs.Str.{bytes_eq}
 use Rattle.p8_tree.specs.declared.places.Place.{Place}
 use Rattle.p8_tree.specs.Names.{result_word}
-use Rattle.p8_tree.specs.Expressions.{Tree, node, Form, Number, Str, Here, Var, Call, Unary, Binary, Assign, Change, Address, ObjectAddress, ObjConst, Built, Look, Variable, Named, Part, Memory, Register, no_index, index}
+use Rattle.p8_tree.specs.Expressions.{Tree, node, Form, Number, Str, Here, Var, Call, Unary, Binary, Assign, Change, Address, ObjectAddress}
+use Rattle.p8_tree.specs.Expressions.{ObjConst, Built, Look, Variable, Named, Part, Memory, Register, no_index, index}
 use Rattle.p8_tree.specs.Sources as trees
 use Rattle.p8_tree.specs.Sources.{Contents, Declared, Instruction, Line, MethodTree}
 use Rattle.p8_constants.specs.FileItems.{Item, variable, method, line}
@@ -208,7 +210,8 @@ of_method f m = of_body f m (spots_in m.body)
 
 abbrev pub is_jump : (word : List ℕ) → Bool
 is_jump word =
-    bytes_eq word (codes "JMP") || (bytes_eq word (codes "DJNZ") || (bytes_eq word (codes "TJNZ") || (bytes_eq word (codes "TJZ") || bytes_eq word (codes "JMPRET"))))
+    bytes_eq word (codes "JMP") || (bytes_eq word (codes "DJNZ") ||
+    (bytes_eq word (codes "TJNZ") || (bytes_eq word (codes "TJZ") || bytes_eq word (codes "JMPRET"))))
 
 -- x_RET holds the address to which the routine x returns
 abbrev pub is_return : (label : List ℕ) → Bool

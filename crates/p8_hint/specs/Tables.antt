@@ -1,7 +1,7 @@
 -- internal: what the code's tables stand for.
 use Rattle.std.specs.Prelude.{ℕ, List, Option, Some, None}
 use Rattle.std.specs.Borrow.{Bor}
-use Rattle.p8_kinds.specs.ConstantEntries.{at_bytes}
+use Rattle.p8_fold.specs.ConstantEntries.{at_bytes}
 use Rattle.p8_hint.specs.declared.table.Table.{Table}
 use Rattle.p8_hint.specs.declared.facts.FileFacts.{FileFacts}
 use Rattle.p8_hint.specs.Rules.{Facts}

@@ -2,8 +2,9 @@
 ghost use Rattle.std.specs.Prelude.{◌≡◌, ◌++◌, map, OnOk, option_map};
 ghost use Rattle.p8_tree.specs.Views.{tree_of, variable_of, call_of, trees_of, items_of, item_of};
 ghost use Rattle.p8_tree.specs.Bridges.{boxed_index};
-ghost use Rattle.p8_kinds.specs.Verdicts.{boxed_bits};
-ghost use Rattle.p8_hint.specs.Spots.{addressed, built, called, in_bits, in_condition, in_form, in_index, in_item, in_items, in_option, in_tree, in_trees, in_variable, in_test, named, of_single};
+ghost use Rattle.p8_fold.specs.Verdicts.{boxed_bits};
+ghost use Rattle.p8_hint.specs.Spots.{addressed, built, called, in_bits, in_condition, in_form, in_index, in_item, in_items, in_option, in_tree};
+ghost use Rattle.p8_hint.specs.Spots.{in_trees, in_variable, in_test, named, of_single};
 ghost use Rattle.p8_hint.specs.SpotViews.{spots_of};
 
 use crate::spot::Spot;

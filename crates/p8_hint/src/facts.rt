@@ -2,7 +2,7 @@
 ghost use Rattle.std.specs.Prelude.{◌≡◌, ◌++◌, ◌<◌, ◌^◌, ◌+◌, ◌*◌, ℕ, List as list, length, map, OnOk, IfOk};
 ghost use Rattle.std.specs.Str.{bytes_eq};
 ghost use Rattle.p8_tree.specs.Views.{declared_of, method_of};
-ghost use Rattle.p8_kinds.specs.ConstantEntries.{setting_of};
+ghost use Rattle.p8_fold.specs.ConstantEntries.{setting_of};
 ghost use Rattle.p8_constants.specs.Standing.{item_of, items_of as item_trees};
 ghost use Rattle.p8_names.specs.Kinds.{numbered};
 ghost use Rattle.p8_hint.specs.Rules.{after, is_open, mentions, once_more, reached_in, reaches, times_in};
@@ -15,7 +15,7 @@ use crate::spot::Spot;
 use crate::statements::put_method;
 use crate::table::Table;
 use p8_constants::{Item, count_value};
-use p8_kinds::Consts;
+use p8_fold::Consts;
 use p8_stmt::MethodCode;
 use p8_tree::{Method, VarItem};
 use p8_words::NoMemory;
@@ -160,7 +160,8 @@ fn needed_in(alloc: Global, methods: &[&Method], codes: &[MethodCode]) -> Result
 }
 
 fn put_needed(table: &mut Table, method: &Method, code: &MethodCode) -> Result<(), NoMemory>
-    ensures { OnOk result ((name : list ℕ) → number_in table.new name ≡ after (bytes_eq name method.now.name) (λ before. bytes_of (method_of method.now) code.now) (number_in table.old name)) }
+    ensures { OnOk result ((name : list ℕ) → number_in table.new name ≡
+        after (bytes_eq name method.now.name) (λ before. bytes_of (method_of method.now) code.now) (number_in table.old name)) }
 {
     let bytes = bytes_of(method, code)?;
     table.put(method.name.as_slice(), bytes)?;
@@ -179,7 +180,8 @@ fn arrays_of(alloc: Global, consts: &Consts, items: &[Item<'_>]) -> Result<Table
 }
 
 fn put_array(table: &mut Table, consts: &Consts, item: Item<'_>) -> Result<(), AllocError>
-    ensures { OnOk result ((name : list ℕ) → number_in table.new name ≡ after (is_array name (item_of item.entry)) (λ before. bytes_in (setting_of consts.now) (item_of item.entry)) (number_in table.old name)) }
+    ensures { OnOk result ((name : list ℕ) → number_in table.new name ≡
+        after (is_array name (item_of item.entry)) (λ before. bytes_in (setting_of consts.now) (item_of item.entry)) (number_in table.old name)) }
 {
     match item {
         Item::Variable(variable) => match variable.count {

@@ -98,7 +98,8 @@ fn put_source(
 
 // The source operand of an instruction.
 fn put_operand(hints: &mut Vec<Hint>, facts: &FileFacts, line: &InstrLine) -> Result<(), AllocError>
-    ensures { OnOk result (hints.new.items ≡ hints.old.items ++ of_operand (facts_of facts.now) line.now.word line.now.immediate line.now.source_place (option_map tree_of line.now.source)) }
+    ensures { OnOk result (hints.new.items ≡ hints.old.items ++
+        of_operand (facts_of facts.now) line.now.word line.now.immediate line.now.source_place (option_map tree_of line.now.source)) }
 {
     if line.immediate {
         return Ok(());

@@ -45,7 +45,8 @@ fn or_behind(own: Option<bool>, behind: bool) -> bool
 
 // Marks the label of an item, where it has one.
 fn mark_label(table: &mut Table, item: Item<'_>, is_code: bool) -> Result<(), AllocError>
-    ensures { OnOk result ((name : List ℕ) → number_in table.new name ≡ after (has_label name (item_of item.entry)) (and_code is_code) (number_in table.old name)) }
+    ensures { OnOk result ((name : List ℕ) → number_in table.new name ≡
+        after (has_label name (item_of item.entry)) (and_code is_code) (number_in table.old name)) }
 {
     match item {
         Item::Line(line) => match &line.label {

@@ -1,7 +1,8 @@
 // How statements follow one another. The calls go as deep as blocks stand in one another.
 ghost use Rattle.std.specs.Prelude.{◌≡◌, ◌&&◌, ◌||◌, not, map};
 ghost use Rattle.p8_tree.specs.Views.{action_of, arm_of, arms_of, course_of, statement_of, statements_of};
-ghost use Rattle.p8_hint.specs.Spots.{action_quits, arm_quits, arms_quit, counts, has_no_body, is_bare, is_empty, is_endless, is_forever, is_lone_and_bare, quit, quits};
+ghost use Rattle.p8_hint.specs.Spots.{action_quits, arm_quits, arms_quit, counts, has_no_body, is_bare, is_empty, is_endless, is_forever};
+ghost use Rattle.p8_hint.specs.Spots.{is_lone_and_bare, quit, quits};
 
 use p8_tree::{Arm, Loop, Stmt, StmtKind};
 

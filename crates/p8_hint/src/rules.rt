@@ -2,7 +2,8 @@
 ghost use Rattle.std.specs.Prelude.{◌≡◌, ◌++◌, OnOk};
 ghost use Rattle.std.specs.List.{flat_map};
 ghost use Rattle.p8_tree.specs.Views.{tree_of, variable_of};
-ghost use Rattle.p8_hint.specs.Rules.{assigned, begun_name, compared, in_port, in_spot, in_start, in_test, is_plain, is_short, is_value, lone_name, needed_by, own_method, of_address, of_stack, of_value, short, told};
+ghost use Rattle.p8_hint.specs.Rules.{assigned, begun_name, compared, in_port, in_spot, in_start, in_test, is_plain, is_short, is_value, lone_name};
+ghost use Rattle.p8_hint.specs.Rules.{needed_by, own_method, of_address, of_stack, of_value, short, told};
 ghost use Rattle.p8_hint.specs.SpotViews.{spot_of, spots_of};
 ghost use Rattle.p8_hint.specs.Tables.{facts_of, text_now};
 

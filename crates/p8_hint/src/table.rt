@@ -1,7 +1,7 @@
 // Tables from names to numbers.
 ghost use Rattle.std.specs.Prelude.{◌≡◌, ℕ, List, Some, None, is_some, OnOk};
 ghost use Rattle.std.specs.Str.{bytes_eq};
-ghost use Rattle.p8_kinds.specs.ConstantEntries.{at_bytes};
+ghost use Rattle.p8_fold.specs.ConstantEntries.{at_bytes};
 ghost use Rattle.p8_hint.specs.Rules.{after, once_more};
 ghost use Rattle.p8_hint.specs.FileFacts.{and_code};
 ghost use Rattle.p8_hint.specs.Tables.{number_in};

@@ -112,7 +112,8 @@ impl Fronts {
     /// The fronts before the first turn, when the cogs have said this.
     pub fn open(hub: &Hub, sayings: &[Next; 8], until: u64) -> Fronts
         requires { until < 2 ^ 61 }
-        ensures { (w : World) (n : ℕ) (said : Next) → IsHub w [] hub.now → n < 8 → slice_get sayings.now n ≡ Some said → IsFrontIn result n until (cog_state w [] n) said }
+        ensures { (w : World) (n : ℕ) (said : Next) → IsHub w [] hub.now → n < 8 → slice_get sayings.now n ≡ Some said →
+            IsFrontIn result n until (cog_state w [] n) said }
     {
         let mut fronts = Fronts::silent();
         fronts.renew(hub, sayings, 0, until);
@@ -124,7 +125,8 @@ impl Fronts {
     pub fn renew(&mut self, hub: &Hub, sayings: &[Next; 8], cog: u8, until: u64)
         requires cog { cog < 8 }
         requires until { until < 2 ^ 61 }
-        ensures own { (w : World) (past : List Turn) (said : Next) → IsHub w past hub.now → slice_get sayings.now cog ≡ Some said → IsFrontIn self.new cog until (cog_state w past cog) said }
+        ensures own { (w : World) (past : List Turn) (said : Next) → IsHub w past hub.now → slice_get sayings.now cog ≡ Some said →
+            IsFrontIn self.new cog until (cog_state w past cog) said }
         ensures others { (n : ℕ) → (n ≡ cog → ⊥) → slice_index self.new.clocks n ≡ slice_index self.old.clocks n }
     {
         let front = front_of(cog, hub.state(cog), sayings[cog as usize], until);
@@ -161,7 +163,9 @@ impl Fronts {
         requires proper { IsProper turn.now.access }
         requires fits { Fits turn.now.access turn.now.answer }
         requires until { until < 2 ^ 61 }
-        ensures fronts { (w : World) (past : List Turn) (n : ℕ) (said : Next) → IsHub w (turn.now ∷ past) hub.now → slice_get sayings.now n ≡ Some said → ((n ≡ turn.now.key.cog → ⊥) → IsFrontIn self.old n until (cog_state w past n) said) → IsFrontIn self.new n until (cog_state w (turn.now ∷ past) n) said }
+        ensures fronts { (w : World) (past : List Turn) (n : ℕ) (said : Next) → IsHub w (turn.now ∷ past) hub.now →
+            slice_get sayings.now n ≡ Some said → ((n ≡ turn.now.key.cog → ⊥) → IsFrontIn self.old n until (cog_state w past n) said) →
+            IsFrontIn self.new n until (cog_state w (turn.now ∷ past) n) said }
     {
         self.renew(hub, sayings, turn.key.cog, until);
         if let Some(other) = changed_cog(turn) {

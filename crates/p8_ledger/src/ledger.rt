@@ -1,5 +1,6 @@
 // The value that keeps where a record stands, and makes its turns.
-ghost use Rattle.std.specs.Prelude.{Bool, ◌≡◌, ◌<◌, ◌≤◌, ◌+◌, ◌^◌, ◌⊎◌, ◌∷◌, ◌++◌, [], ℕ, List, Some, None, true, Option, length, reverse, slice_get, slice_index, IfOk, IfSome, MatchOption, IsTrue, ◌↔◌};
+ghost use Rattle.std.specs.Prelude.{Bool, ◌≡◌, ◌<◌, ◌≤◌, ◌+◌, ◌^◌, ◌⊎◌, ◌∷◌, ◌++◌, [], ℕ, List, Some, None, true, Option, length, reverse, slice_get};
+ghost use Rattle.std.specs.Prelude.{slice_index, IfOk, IfSome, MatchOption, IsTrue, ◌↔◌};
 ghost use Rattle.p8_access.specs.declared.kinds.Access.TheVariants.{PinsIn};
 ghost use Rattle.p8_access.specs.declared.kinds.Access.{Access};
 ghost use Rattle.p8_access.specs.declared.kinds.Origin.{Origin};
@@ -203,7 +204,8 @@ impl Ledger {
     pub fn say(&mut self, cog: u8, next: Next)
         requires cog { cog < 8 }
         requires made { IsMadeNext next }
-        ensures found { (w : World) (r : Record) → Found w self.old r → IsTrueOf w (turns r) cog next → ((origin : Origin) × (cog_state w (turns r) cog ≡ Running origin)) → Found w self.new (Said cog next ∷ r) }
+        ensures found { (w : World) (r : Record) → Found w self.old r → IsTrueOf w (turns r) cog next →
+            ((origin : Origin) × (cog_state w (turns r) cog ≡ Running origin)) → Found w self.new (Said cog next ∷ r) }
         ensures said { HasSaid self.old self.new cog next }
     {
         self.sayings[cog as usize] = next;
@@ -235,7 +237,8 @@ impl Ledger {
     #[inline]
     fn clock_in(&self, cog: u8, from: u64, span: &Span) -> u64
         requires { cog < 8 }
-        ensures { (w : World) (r : Record) → Found w self.now r → IsSpanFrom w.script from span.now → WaitsFrom w r from → IsClockIn w r span.now.end cog result }
+        ensures { (w : World) (r : Record) → Found w self.now r → IsSpanFrom w.script from span.now → WaitsFrom w r from →
+            IsClockIn w r span.now.end cog result }
     {
         let front = self.front(cog);
         match front.test {
@@ -252,7 +255,8 @@ impl Ledger {
     /// The key of the turn that comes first in a span of the script, which begins at `from` or before.
     fn first_in(&self, from: u64, span: &Span) -> Key
         ensures near { result.cog < 8 }
-        ensures first { (w : World) (r : Record) → Found w self.now r → IsSpanFrom w.script from span.now → WaitsFrom w r from → IsFirstKey w r span.now.end result }
+        ensures first { (w : World) (r : Record) → Found w self.now r → IsSpanFrom w.script from span.now → WaitsFrom w r from →
+            IsFirstKey w r span.now.end result }
     {
         let mut clocks = [NEVER; 8];
         for cog in 0..8 {
@@ -345,7 +349,8 @@ impl Ledger {
     /// The least front, where a turn may come: where there is room for one, and that front is below the limit.
     #[inline(always)]
     fn least(&self, script: &PinScript) -> Option<Least>
-        ensures least { (w : World) (r : Record) → script.now ≡ w.script → Found w self.now r → MatchOption result ((length (turns r) ≡ w.turns) ⊎ NoFront w r) (λ least. (length (turns r) < w.turns) × IsLeastFront w r least.key) }
+        ensures least { (w : World) (r : Record) → script.now ≡ w.script → Found w self.now r →
+            MatchOption result ((length (turns r) ≡ w.turns) ⊎ NoFront w r) (λ least. (length (turns r) < w.turns) × IsLeastFront w r least.key) }
         ensures suits { IfSome result (λ least. (least.key.cog < 8) × (least.key.clock < 2 ^ 61) × (length self.now.turns.list < self.now.turns.room)) }
     {
         if self.turns.len() as u64 >= self.limits.turns {
@@ -392,7 +397,8 @@ impl Ledger {
         ensures access { result.access ≡ due.access }
         ensures answer { (w : World) (r : Record) → script.now ≡ w.script → Found w self.old r → result.answer ≡ answer_to w (turns r) key due.access }
         ensures made { HasMade self.old self.new result due.running }
-        ensures found { (w : World) (r : Record) → Found w self.old r → Extends asks w (turns r) result → FitsState due.running (cog_state w (turns r) key.cog) → Found w self.new (Took result ∷ r) }
+        ensures found { (w : World) (r : Record) → Found w self.old r → Extends asks w (turns r) result →
+            FitsState due.running (cog_state w (turns r) key.cog) → Found w self.new (Took result ∷ r) }
     {
         let levels = levels(script, &due.access, key.clock, &self.span);
         let answer = self.hub.answer(key, &due.access, levels);
@@ -422,7 +428,8 @@ impl Ledger {
         ensures access { result.access ≡ access }
         ensures answer { (w : World) (r : Record) → script.now ≡ w.script → Found w self.old r → result.answer ≡ answer_to w (turns r) key access }
         ensures made { HasMade self.old self.new result true }
-        ensures found { (w : World) (r : Record) → Found w self.old r → Extends asks w (turns r) result → FitsState true (cog_state w (turns r) key.cog) → Found w self.new (Took result ∷ r) }
+        ensures found { (w : World) (r : Record) → Found w self.old r → Extends asks w (turns r) result →
+            FitsState true (cog_state w (turns r) key.cog) → Found w self.new (Took result ∷ r) }
     {
         let levels = levels(script, &access, key.clock, &self.span);
         let answer = self.hub.answer(key, &access, levels);
@@ -474,8 +481,10 @@ impl Ledger {
     /// The least front, where there is room for a turn and that front is an access of a running cog that is no wait: so it is for most turns.
     #[inline(always)]
     fn plain(&self) -> Option<Key>
-        ensures suits { IfSome result (λ key. (key.cog < 8) × (key.clock < 2 ^ 61) × (length self.now.turns.list < self.now.turns.room) × IsPlainIn self.now.sayings key.cog key.clock) }
-        ensures least { (w : World) (r : Record) → Found w self.now r → IfSome result (λ key. ((origin : Origin) × (cog_state w (turns r) key.cog ≡ Running origin)) × IsLeastFront w r key) }
+        ensures suits { IfSome result (λ key. (key.cog < 8) × (key.clock < 2 ^ 61) × (length self.now.turns.list < self.now.turns.room) ×
+            IsPlainIn self.now.sayings key.cog key.clock) }
+        ensures least { (w : World) (r : Record) → Found w self.now r →
+            IfSome result (λ key. ((origin : Origin) × (cog_state w (turns r) key.cog ≡ Running origin)) × IsLeastFront w r key) }
     {
         if self.turns.len() as u64 >= self.limits.turns {
             return None;
@@ -514,7 +523,8 @@ impl Ledger {
         ensures suits { Suits self.old.sayings key.cog key.clock (record { access = result.access; running = true }) }
         ensures answer { (w : World) (r : Record) → script.now ≡ w.script → Found w self.old r → result.answer ≡ answer_to w (turns r) key result.access }
         ensures made { HasMade self.old self.new result true }
-        ensures found { (w : World) (r : Record) → Found w self.old r → Extends asks w (turns r) result → FitsState true (cog_state w (turns r) key.cog) → Found w self.new (Took result ∷ r) }
+        ensures found { (w : World) (r : Record) → Found w self.old r → Extends asks w (turns r) result →
+            FitsState true (cog_state w (turns r) key.cog) → Found w self.new (Took result ∷ r) }
     {
         let access = access_in(&self.sayings[key.cog as usize]);
         let levels = levels(script, access, key.clock, &self.span);
@@ -555,7 +565,8 @@ impl Ledger {
         ensures suits { Suits self.old.sayings key.cog key.clock (record { access = result.access; running = true }) }
         ensures answer { (w : World) (r : Record) → script.now ≡ w.script → Found w self.old r → result.answer ≡ answer_to w (turns r) key result.access }
         ensures made { HasMade self.old self.new result true }
-        ensures found { (w : World) (r : Record) → Found w self.old r → Extends asks w (turns r) result → FitsState true (cog_state w (turns r) key.cog) → Found w self.new (Took result ∷ r) }
+        ensures found { (w : World) (r : Record) → Found w self.old r → Extends asks w (turns r) result →
+            FitsState true (cog_state w (turns r) key.cog) → Found w self.new (Took result ∷ r) }
     {
         match *self.plain_access(key) {
             Access::Write {

@@ -81,7 +81,8 @@ pub fn wake_clock(
     span: &Span,
 ) -> Option<u64>
     requires { IfSome last (λ key. key.clock < 2 ^ 61) }
-    ensures first { (w : World) (past : List Turn) → IsHub w past hub.now → last ≡ newest_key past → IsSpanFrom w.script from span.now → IsFirstWake w past cog test.now earliest from span.now.end result }
+    ensures first { (w : World) (past : List Turn) → IsHub w past hub.now → last ≡ newest_key past → IsSpanFrom w.script from span.now →
+        IsFirstWake w past cog test.now earliest from span.now.end result }
     ensures below { IfSome result (λ clock. clock < 2 ^ 62) }
 {
     let first = first_clock(last, cog).max(earliest).max(from);

@@ -15,7 +15,7 @@ use Rattle.p8_tree.specs.Statements.{From, statement, Do, Repeat, Statements, no
 use Rattle.p8_bytecode.specs.Table.{rows}
 use Rattle.p8_kinds.specs.declared.name_kinds.NameKind.{NameKind}
 use Rattle.p8_kinds.specs.declared.name_kinds.NameKind.TheVariants as kinds
-use Rattle.p8_kinds.specs.Meanings.{outside_operands}
+use Rattle.p8_fold.specs.Meanings.{outside_operands}
 use Rattle.p8_gen.specs.Methods.{bytes_of, method_code}
 use Rattle.p8_gen.specs.Names.{Names, all_wide}
 

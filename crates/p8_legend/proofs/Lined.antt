@@ -13,7 +13,7 @@ use Rattle.p8_bytecode.specs.Table.{rows}
 use Rattle.p8_kinds.specs.declared.name_kinds.NameKind.{NameKind}
 use Rattle.p8_kinds.specs.declared.name_kinds.NameKind.TheVariants as kinds
 use Rattle.p8_words.specs.Operators.{or_zero}
-use Rattle.p8_kinds.specs.Values as constants
+use Rattle.p8_fold.specs.Values as constants
 use Rattle.p8_gen.specs.Names.{Names}
 use Rattle.p8_bytecode.specs.Reading.{bare}
 use Rattle.p8_gen.specs.Pieces.{Written, empty, Piece, nothing, one, ◌⨾◌, from_start, up_to_end, up_to_jumps, of_statement, byte, text, offset, jump, end_of_jump, jumping, end_of_jumping}

@@ -11,7 +11,7 @@ use Rattle.p8_tree.specs.Sources.{Child, Declared, BlockTree, Source}
 use Rattle.p8_tree.specs.Sources as trees
 use Rattle.p8_tree.specs.Projects.{NamedSource}
 use Rattle.p8_tree.specs.Proper.{IsSize, IsProperBlock, IsProperDeclared, IsProperFile}
-use Rattle.p8_kinds.specs.Meanings.{Setting}
+use Rattle.p8_fold.specs.Meanings.{Setting}
 use Rattle.p8_kinds.specs.declared.children.Children.{Children}
 use Rattle.p8_constants.specs.FileItems.{Item, constant, variable, object, line, items}
 use Rattle.p8_constants.specs.Rules.{count_in}

@@ -34,4 +34,5 @@ pub record IsAskedBy (entered : Entered) (turns : List Turn) (address : ℕ) (op
   pub goes : lived done entered turns ≡ Goes s begin left
   pub here : s.at ≡ address
   pub next : lived (done + 1) entered turns ≡ Asks clock access
-  pub asks : played entered.cog (begin + clocks entered.memory s) (row entered.memory entered.cog op (record s { at = address + length (spelled op) })) left ≡ Asks clock access
+  pub asks : played entered.cog (begin + clocks entered.memory s)
+      (row entered.memory entered.cog op (record s { at = address + length (spelled op) })) left ≡ Asks clock access

@@ -1,6 +1,7 @@
 -- The names of what stands in the frame of a method: its result, its parameters and its locals, one after the other, each of a long and a local of so many
 -- longs as it has (Propeller Manual v1.2, "PUB" of the Spin chapter). The offsets are those of a map.
-use Rattle.std.specs.Prelude.{ℕ, ◌-◌, ◌*◌, ◌/◌, ◌%◌, ◌==◌, ◌&&◌, nat_le, nat_lt, if◌then◌else◌, Bool, List, [], ◌∷◌, ◌++◌, Option, Some, None, slice_get, unwrap_or, codes}
+use Rattle.std.specs.Prelude.{ℕ, ◌-◌, ◌*◌, ◌/◌, ◌%◌, ◌==◌, ◌&&◌, nat_le, nat_lt, if◌then◌else◌, Bool, List, [], ◌∷◌, ◌++◌, Option, Some, None}
+use Rattle.std.specs.Prelude.{slice_get, unwrap_or, codes}
 use Rattle.p8_bytecode.specs.declared.op.Op.{Op}
 use Rattle.p8_bytecode.specs.Reading.{op_at}
 use Rattle.p8_map.specs.declared.names.LocalName.{LocalName}

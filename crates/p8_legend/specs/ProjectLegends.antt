@@ -78,7 +78,8 @@ with_object so_far prefix base names object =
 -- objects one after the other, from a number on, in a project with all these
 abbrev pub with_objects : Named → List FileNames → List ObjectPart → (number base : ℕ) → List FileNames → List ObjectPart → Named
 with_objects so_far all parts number base (names ∷ files) (object ∷ objects) =
-    with_objects (with_object so_far (path_of all parts (length parts) number) base names object) all parts (number + 1) (further base (size_of object)) files objects
+    with_objects (with_object so_far (path_of all parts (length parts) number) base names object) all parts (number + 1)
+    (further base (size_of object)) files objects
 with_objects so_far all parts number base _ _ = so_far
 
 -- ---- the variables of an instance
@@ -91,7 +92,8 @@ and_if true so_far address end text = and_one so_far address end text
 -- those of one size, one after the other
 abbrev pub with_sized : Named → (size place : ℕ) → (prefix : List ℕ) → (names : List (List ℕ)) → List Variable → Named
 with_sized so_far size place prefix (name ∷ names) (v ∷ variables) =
-    with_sized (and_if (v.size == size) so_far place (further place (sized_bytes size v)) (prefix ++ name)) size (further place (sized_bytes size v)) prefix names variables
+    with_sized (and_if (v.size == size) so_far place (further place (sized_bytes size v)) (prefix ++ name)) size
+    (further place (sized_bytes size v)) prefix names variables
 with_sized so_far size place prefix _ _ = so_far
 
 -- longs come first, then words, then bytes

@@ -25,11 +25,13 @@ pub record IsLegendOf (sources : List (List ℕ)) (files : List NamedSource) (le
   pub clock_is : clock_by compiled ≡ Some clock
   pub fits : FitsHub (header_by (objects_of files children compiled))
   pub names : (legend.names.ranges, legend.names.texts)
-      ≡ names_in (word_at (image_of clock (objects_of files children compiled)) 8) (names_of sources files children compiled) (objects_of files children compiled)
+      ≡ names_in (word_at (image_of clock (objects_of files children compiled)) 8) (names_of sources files children compiled)
+      (objects_of files children compiled)
   pub places : (legend.places.ranges, legend.places.texts)
       ≡ with_rows ([], []) (names_of sources files children compiled) (rows_from 0 16 (objects_of files children compiled) (codes_of compiled))
   pub locals : (legend.locals.ranges, legend.locals.texts)
-      ≡ with_locals ([], []) (image_of clock (objects_of files children compiled)) (names_of sources files children compiled) (rows_from 0 16 (objects_of files children compiled) (codes_of compiled))
+      ≡ with_locals ([], []) (image_of clock (objects_of files children compiled)) (names_of sources files children compiled)
+      (rows_from 0 16 (objects_of files children compiled) (codes_of compiled))
 
 -- the same ranges with the same texts
 pub record AreSame (a b : Legend) : Type 0 where

@@ -37,7 +37,8 @@ line_rows file method at size (line ∷ rest) = line_row file method at (end_of 
 -- the rows of methods from a number on, whose codes stand one after the other from an address on
 abbrev pub code_rows : (file method at : ℕ) → List MethodCode → List Row
 code_rows file method at [] = []
-code_rows file method at (code ∷ codes) = line_rows file method at (length code.bytes) code.lines ++ code_rows file (method + 1) (further at (length code.bytes)) codes
+code_rows file method at (code ∷ codes) = line_rows file method at (length code.bytes) code.lines ++
+    code_rows file (method + 1) (further at (length code.bytes)) codes
 
 -- the rows of objects, one after the other from a base on, with the codes of their methods
 abbrev pub rows_from : (file base : ℕ) → List ObjectPart → List (List MethodCode) → List Row

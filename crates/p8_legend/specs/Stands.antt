@@ -24,7 +24,8 @@ pub record IsFileAt (files : List FileNames) (objects : List ObjectPart) (f : �
 -- other's begin with, then its name there and `.`.
 pub data HasPath (files : List FileNames) (objects : List ObjectPart) (addresses : Addresses) : (path : List ℕ) → Standing → Type 0 where
   top_path : HasPath files objects addresses [] addresses.top
-  inner_path : {path name : List ℕ} {outer : Standing} {names : FileNames} {object : ObjectPart} {child : ℕ} (i : ℕ) → HasPath files objects addresses path outer
+  inner_path : {path name : List ℕ} {outer : Standing} {names : FileNames} {object : ObjectPart} {child : ℕ} (i : ℕ) →
+      HasPath files objects addresses path outer
       → IsFileAt files objects outer.file names object → slice_get names.instances i ≡ Some name → slice_get object.instances i ≡ Some child
       → HasPath files objects addresses (path ++ name ++ codes ".") (instance_at addresses outer child (length object.methods + 1 + i))
 
@@ -103,7 +104,8 @@ module _ (files : List FileNames) (objects : List ObjectPart) (addresses : Addre
     of_method : (x : NamedMethod files objects) → text ≡ path_of files objects (length objects) x.f ++ x.m.name → range ≡ method_range x → IsNameOf text range
     of_variable : (x : NamedVariable files objects addresses) → text ≡ x.path ++ x.name → range ≡ variable_range x → IsNameOf text range
 
-  -- A variable of the top file, or of an instance that has a byte of variables or has one inside that has. Of other instances there may be more than can be listed.
+  -- A variable of the top file, or of an instance that has a byte of variables or has one inside that has. Of other instances there may be more than
+  -- can be listed.
   abbrev pub IsListed : NamedVariable files objects addresses → Type 0
   IsListed x = (x.path ≡ []) ⊎ (0 < slice_index (variables_of objects) x.instance.file)
 

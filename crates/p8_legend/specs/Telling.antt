@@ -30,7 +30,8 @@ pub record IsShown (sources : List (List ℕ)) (files : List NamedSource) (file_
   pub is : text ≡ stands.file.name ++ codes ":" ++ decimal place.line ++ codes " " ++ spelled (text_in bytes) stands.method.place stands.method.name
 
 -- of an address this place is told
-pub record TellsPlace (sources : List (List ℕ)) (files : List NamedSource) (places : Ranges) (address file_number method_number : ℕ) (place : Place) : Type 0 where
+pub record TellsPlace (sources : List (List ℕ)) (files : List NamedSource) (places : Ranges) (address file_number method_number : ℕ)
+    (place : Place) : Type 0 where
   pub text : List ℕ
   pub shown : IsShown sources files file_number method_number place text
   pub told : place_text places (Some address) ≡ codes " " ++ text

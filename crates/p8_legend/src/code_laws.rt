@@ -19,6 +19,7 @@ pub fn lines_begin_where_bytecodes_do()
 /// to none of the statements inside. A method's lines are of its statements, or of its `RETURN` at the end.
 pub fn lines_are_of_their_statements()
     ensures statements { (n : Names) → (l : Option Loop) → (x : Statement) → (w : Written) → AddsLines (places_of x) w (code n l x w) }
-    ensures alone { (n : Names) → (l : Option Loop) → (place : Place) → (action : Action) → places_in action ≡ [] → (w : Written) → AddsLines (place ∷ []) w (code n l (statement place action) w) }
+    ensures alone { (n : Names) → (l : Option Loop) → (place : Place) → (action : Action) → places_in action ≡ [] → (w : Written) →
+        AddsLines (place ∷ []) w (code n l (statement place action) w) }
     ensures methods { (n : Names) → (ss : Statements) → AddsLines (places_of_body ss ++ n.statement ∷ []) empty (method_code n ss) }
 {}

@@ -17,7 +17,8 @@ fn push_instance(
     objects: &[ObjectPart],
     instance: &Instance,
 ) -> Result<(), NoMemory>
-    ensures { OnOk result ((names.new.ranges, names.new.texts) ≡ with_instance (names.old.ranges, names.old.texts) instance.now (slice_get files.now instance.now.file) (slice_get objects.now instance.now.file)) }
+    ensures { OnOk result ((names.new.ranges, names.new.texts) ≡
+        with_instance (names.old.ranges, names.old.texts) instance.now (slice_get files.now instance.now.file) (slice_get objects.now instance.now.file)) }
 {
     let number = usize::from(instance.file);
     let Some(file) = files.get(number) else {

@@ -7,7 +7,8 @@ ghost use Rattle.p8_legend.specs.Projects.{AreSame, IsLegendOf};
 
 /// Law: a project whose files have these bytes has one legend.
 pub fn one_legend()
-    ensures { (sources : List (List ℕ)) → (files : List NamedSource) → AreDistinct files → HaveNoRing files → (a : Legend) → (b : Legend) → IsLegendOf sources files a → IsLegendOf sources files b → AreSame a b }
+    ensures { (sources : List (List ℕ)) → (files : List NamedSource) → AreDistinct files → HaveNoRing files → (a : Legend) → (b : Legend) →
+        IsLegendOf sources files a → IsLegendOf sources files b → AreSame a b }
 {
     p8_names::one_for_each_project();
 }

@@ -127,7 +127,8 @@ fn push_frame(out: &mut Vec<u8>, names: &MethodNames, offset: u64) -> Result<(),
 
 /// The names of the method of this number, counted from 1, of a file.
 fn method_of<'a>(files: &'a [FileNames], row: &Row) -> Option<&'a MethodNames>
-    ensures { MatchOption result (method_among (slice_get files.now row.now.file) row.now.method ≡ None) (λ m. method_among (slice_get files.now row.now.file) row.now.method ≡ Some m.now) }
+    ensures { MatchOption result (method_among (slice_get files.now row.now.file) row.now.method ≡ None)
+        (λ m. method_among (slice_get files.now row.now.file) row.now.method ≡ Some m.now) }
 {
     match files.get(usize::from(row.file)) {
         Some(names) => names

@@ -27,7 +27,8 @@ use p8_names::one_for_each_project;
 /// The place is `FILE:LINE METHOD`: the row's file and line, and its method's name as the file spells it where it is defined. Each byte of a method's code has
 /// a row ([`each_byte_of_code_has_a_row`](crate::each_byte_of_code_has_a_row)).
 pub fn places_are_those_of_rows()
-    ensures { (sources : List (List ℕ)) → (files : List NamedSource) → length sources ≡ length files → AreDistinct files → HaveNoRing files → (legend : Legend) → IsLegendOf sources files legend → (table : LineTable) → IsLineTable files table → TellsRows sources files table.rows legend.places }
+    ensures { (sources : List (List ℕ)) → (files : List NamedSource) → length sources ≡ length files → AreDistinct files → HaveNoRing files →
+        (legend : Legend) → IsLegendOf sources files legend → (table : LineTable) → IsLineTable files table → TellsRows sources files table.rows legend.places }
 {
     one_for_each_project();
     table_tells_each_address_once();
@@ -40,7 +41,11 @@ pub fn places_are_those_of_rows()
 /// The files are those of a project with the top file first, each one read, under names of their own, and the file of each object among them, and none
 /// leads back to itself through its objects. Only the write with which Spin enters its first method is asked by no bytecode.
 pub fn turns_have_the_places_of_their_statements()
-    ensures { (sources : List (List ℕ)) → (files : List NamedSource) → length sources ≡ length files → AreProper files → 0 < length files → AreDistinct files → HaveMentioned files → HaveNoRing files → (image : ImageValue) → (is : IsImageBuilt files image) → (legend : Legend) → IsLegendOf sources files legend → (w : World) → w.memory ≡ memory_of image.file → w.first ≡ start_of (header_of image.file) → (history : List Turn) → Legal asks w history → TurnsAreTold sources files (program_of files is.0.built.children is.0.built.compiled) (addresses_of files is.0.built.compiled is.0.objects) legend.places w history }
+    ensures { (sources : List (List ℕ)) → (files : List NamedSource) → length sources ≡ length files → AreProper files → 0 < length files →
+        AreDistinct files → HaveMentioned files → HaveNoRing files → (image : ImageValue) → (is : IsImageBuilt files image) → (legend : Legend) →
+        IsLegendOf sources files legend → (w : World) → w.memory ≡ memory_of image.file → w.first ≡ start_of (header_of image.file) →
+        (history : List Turn) → Legal asks w history → TurnsAreTold sources files (program_of files is.0.built.children is.0.built.compiled)
+        (addresses_of files is.0.built.compiled is.0.objects) legend.places w history }
 {
     turns_are_asked_for_the_statements_of_their_rows();
     places_are_those_of_rows();

@@ -33,7 +33,14 @@ use p8_opt::images_have_their_lines;
 /// with. After some turns so many bytecodes are done whole, and the one at the address asks next: the row names the statement for which the source asks the
 /// access that comes after the answers of those turns, told up to any greater bound.
 pub fn accesses_are_asked_for_the_statements_of_their_rows()
-    ensures { (files : List NamedSource) → AreProper files → 0 < length files → AreDistinct files → HaveMentioned files → HaveNoRing files → (image : ImageValue) → (is : IsImageBuilt files image) → (table : LineTable) → IsLineTable files table → (entered : Entered) → entered.memory ≡ memory_of image.file → (target : Target) → (frame : ℕ) → IsMethodOrigin (program_of files is.0.built.children is.0.built.compiled) (addresses_of files is.0.built.compiled is.0.objects) entered.origin target frame → (turns : List Turn) → (address : ℕ) → (asked : IsAskedFrom entered turns address) → (bound : ℕ) → asked.0 < bound → NamesStatement table.rows address (says_for (program_of files is.0.built.children is.0.built.compiled) (addresses_of files is.0.built.compiled is.0.objects) target frame entered.cog (map answer_of turns) bound) }
+    ensures { (files : List NamedSource) → AreProper files → 0 < length files → AreDistinct files → HaveMentioned files → HaveNoRing files →
+        (image : ImageValue) → (is : IsImageBuilt files image) → (table : LineTable) → IsLineTable files table → (entered : Entered) →
+        entered.memory ≡ memory_of image.file → (target : Target) → (frame : ℕ) →
+        IsMethodOrigin (program_of files is.0.built.children is.0.built.compiled)
+        (addresses_of files is.0.built.compiled is.0.objects) entered.origin target frame → (turns : List Turn) → (address : ℕ) →
+        (asked : IsAskedFrom entered turns address) → (bound : ℕ) → asked.0 < bound →
+        NamesStatement table.rows address (says_for (program_of files is.0.built.children is.0.built.compiled)
+        (addresses_of files is.0.built.compiled is.0.objects) target frame entered.cog (map answer_of turns) bound) }
 {
     one_for_each_project();
     table_tells_each_address_once();
@@ -46,7 +53,10 @@ pub fn accesses_are_asked_for_the_statements_of_their_rows()
 ///
 /// Only the write with which Spin enters its first method is asked by no bytecode.
 pub fn turns_are_asked_for_the_statements_of_their_rows()
-    ensures { (files : List NamedSource) → AreProper files → 0 < length files → AreDistinct files → HaveMentioned files → HaveNoRing files → (image : ImageValue) → (is : IsImageBuilt files image) → (table : LineTable) → IsLineTable files table → (w : World) → w.memory ≡ memory_of image.file → w.first ≡ start_of (header_of image.file) → (history : List Turn) → Legal asks w history → TurnsAreNamed (program_of files is.0.built.children is.0.built.compiled) (addresses_of files is.0.built.compiled is.0.objects) table.rows w history }
+    ensures { (files : List NamedSource) → AreProper files → 0 < length files → AreDistinct files → HaveMentioned files → HaveNoRing files →
+        (image : ImageValue) → (is : IsImageBuilt files image) → (table : LineTable) → IsLineTable files table → (w : World) →
+        w.memory ≡ memory_of image.file → w.first ≡ start_of (header_of image.file) → (history : List Turn) → Legal asks w history →
+        TurnsAreNamed (program_of files is.0.built.children is.0.built.compiled) (addresses_of files is.0.built.compiled is.0.objects) table.rows w history }
 {
     images_have_their_lines();
     turns_come_after_few_bytecodes();

@@ -19,5 +19,8 @@ ghost use Rattle.p8_legend.specs.Standing.{around, StandsByLines};
 /// The statement is one of a source that was read, with each NEXT and each QUIT in a loop, and no name of it is used against its kind. The names
 /// of the code generator agree with those of the project and its image. The code before the statement is any.
 pub fn statements_stand_by_their_lines()
-    ensures { (n : Names) → (t : Compiled) → (base : ℕ) → Agrees n t → (l : Option Loop) → (x : Statement) → IsProperStatement x → IsTrue (leaves_loop (is_some l) x) → ((f : Fault) → ¬ MisuseInStatement (environment n) x f) → (w : Written) → HasCode t.memory base (code n l x w) → HasLines t.table base (code n l x w).lines → AreOps (code n l x w).ops → StandsByLines t base x (around base l) w (code n l x w) }
+    ensures { (n : Names) → (t : Compiled) → (base : ℕ) → Agrees n t → (l : Option Loop) → (x : Statement) → IsProperStatement x →
+        IsTrue (leaves_loop (is_some l) x) → ((f : Fault) → ¬ MisuseInStatement (environment n) x f) → (w : Written) →
+        HasCode t.memory base (code n l x w) → HasLines t.table base (code n l x w).lines → AreOps (code n l x w).ops →
+        StandsByLines t base x (around base l) w (code n l x w) }
 {}

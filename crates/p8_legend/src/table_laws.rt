@@ -15,7 +15,8 @@ ghost use Rattle.p8_legend.specs.Origins.{IsRowOf};
 /// Law: in the line table of a project that is built no two rows hold one address. So
 /// [`at`](crate::LineTable::at) tells of each address exactly the row that holds it, and of no other address any row.
 pub fn table_tells_each_address_once()
-    ensures { (files : List NamedSource) → AreDistinct files → HaveNoRing files → (clock : Clock) → (objects : List ObjectPart) → (table : LineTable) → IsBuilt files clock objects → IsLineTable files table → AreApart table.rows }
+    ensures { (files : List NamedSource) → AreDistinct files → HaveNoRing files → (clock : Clock) → (objects : List ObjectPart) →
+        (table : LineTable) → IsBuilt files clock objects → IsLineTable files table → AreApart table.rows }
 {
     p8_names::one_for_each_project();
 }
@@ -31,7 +32,10 @@ pub fn rows_are_of_their_methods()
 /// Files and methods are those of the image's layout: the objects in the order of their files, counted from 0, at their bases, and in each the
 /// methods, which the row counts from 1, with their codes.
 pub fn each_byte_of_code_has_a_row()
-    ensures { (files : List NamedSource) → AreDistinct files → HaveNoRing files → (clock : Clock) → (objects : List ObjectPart) → (table : LineTable) → IsBuilt files clock objects → IsLineTable files table → (i : ℕ) → (object : ObjectPart) → slice_get objects i ≡ Some object → (k : ℕ) → (method : MethodPart) → slice_get object.methods k ≡ Some method → (o : ℕ) → o < length method.code → HasRow table.rows (slice_index (bases_of objects) i + code_offset object k + o) i (k + 1) }
+    ensures { (files : List NamedSource) → AreDistinct files → HaveNoRing files → (clock : Clock) → (objects : List ObjectPart) →
+        (table : LineTable) → IsBuilt files clock objects → IsLineTable files table → (i : ℕ) → (object : ObjectPart) →
+        slice_get objects i ≡ Some object → (k : ℕ) → (method : MethodPart) → slice_get object.methods k ≡ Some method → (o : ℕ) →
+        o < length method.code → HasRow table.rows (slice_index (bases_of objects) i + code_offset object k + o) i (k + 1) }
 {
     p8_names::one_for_each_project();
 }

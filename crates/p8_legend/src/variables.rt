@@ -19,7 +19,8 @@ fn push_if(
     prefix: &[u8],
     text: &Text,
 ) -> Result<(), NoMemory>
-    ensures { OnOk result ((names.new.ranges, names.new.texts) ≡ and_if is_asked (names.old.ranges, names.old.texts) range.address range.end (prefix.now ++ text.now)) }
+    ensures { OnOk result ((names.new.ranges, names.new.texts) ≡
+        and_if is_asked (names.old.ranges, names.old.texts) range.address range.end (prefix.now ++ text.now)) }
 {
     if is_asked {
         let name = named(alloc, prefix, text.as_slice())?;

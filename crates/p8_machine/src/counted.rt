@@ -34,7 +34,8 @@ pub struct Counted {
 /// What the eight cogs ask next, in the order of their numbers.
 fn next_accesses(machine: &Machine) -> [Next; 8]
     ensures length { length result ≡ 8 }
-    ensures each { IsStanding machine.now → (n : ℕ) (next : Next) → slice_get result n ≡ Some next → IsNextAsked (world_in machine.now) (past_in machine.now) n (cog_state (world_in machine.now) (past_in machine.now) n) next }
+    ensures each { IsStanding machine.now → (n : ℕ) (next : Next) → slice_get result n ≡ Some next →
+        IsNextAsked (world_in machine.now) (past_in machine.now) n (cog_state (world_in machine.now) (past_in machine.now) n) next }
 {
     [
         machine.asked(0),
@@ -87,7 +88,8 @@ pub fn run_counted(
     ensures world { IfOk result (λ counted. world_of counted.ended.history.boot script counted.ended.history.limits ≡ world_of boot script limits) }
     ensures ended { IfOk result (λ counted. HasEnded asks (world_of boot script limits) (reverse counted.ended.history.turns.list)) }
     ensures hub { IfOk result (λ counted. IsHub (world_of boot script limits) (reverse counted.ended.history.turns.list) counted.ended.hub) }
-    ensures counters { IfOk result (λ counted. AreCounters (world_of boot script limits) (reverse counted.ended.history.turns.list) (reverse counted.counters.items)) }
+    ensures counters { IfOk result (λ counted. AreCounters (world_of boot script limits) (reverse counted.ended.history.turns.list)
+        (reverse counted.counters.items)) }
     ensures asked { IfOk result (λ counted. AreAsked (world_of boot script limits) (reverse counted.ended.history.turns.list) counted.asked) }
     ensures crew { IfOk result (λ counted. counted.ended.crew ≡ 1) }
 {

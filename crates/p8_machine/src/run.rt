@@ -66,8 +66,10 @@ impl Machine {
     /// runs after the turn. What the life tells of its next access the cog says at once.
     #[inline(always)]
     fn settle(&mut self, cog: u8, running: bool)
-        requires { (old : Ledger) × (turn : Turn) × HasMade old self.old.ledger turn running × AreAnnounced old.sayings self.old.seats.lives.items × (cog ≡ turn.key.cog) }
-        ensures stands { (turn : Turn) (r : Record) → Comes (world_in self.old) r self.old.ledger self.old.seats.lives.items turn running → IsStanding self.new }
+        requires { (old : Ledger) × (turn : Turn) × HasMade old self.old.ledger turn running × AreAnnounced old.sayings self.old.seats.lives.items ×
+            (cog ≡ turn.key.cog) }
+        ensures stands { (turn : Turn) (r : Record) → Comes (world_in self.old) r self.old.ledger self.old.seats.lives.items turn running →
+            IsStanding self.new }
         ensures past { past_in self.new ≡ past_in self.old }
         ensures world { world_in self.new ≡ world_in self.old }
     {
@@ -105,7 +107,8 @@ impl Machine {
     /// Makes the turn with the least key; false exactly where the history has ended.
     #[inline(always)]
     fn advance(&mut self) -> bool
-        ensures extends { IsStanding self.old → result ≡ true → (turn : Turn) → past_in self.new ≡ turn ∷ past_in self.old → Extends asks (world_in self.old) (past_in self.old) turn }
+        ensures extends { IsStanding self.old → result ≡ true → (turn : Turn) → past_in self.new ≡ turn ∷ past_in self.old →
+            Extends asks (world_in self.old) (past_in self.old) turn }
         ensures over { IsStanding self.old → (result ≡ false) ↔ IsOver asks (world_in self.old) (past_in self.old) }
         ensures room { result ≡ true → length (past_in self.old) < (world_in self.old).turns }
         ensures past { HasAdvanced result (past_in self.old) (past_in self.new) }
@@ -190,7 +193,8 @@ pub fn run_alone(
 
     // The world has no other ended history, each legal past is a part of it, and its keys rise.
     ensures only { IfOk result (λ ended. (past : List Turn) → HasEnded asks (world_of boot script limits) past → past ≡ reverse ended.history.turns.list) }
-    ensures begins_each { IfOk result (λ ended. (past : List Turn) → Legal asks (world_of boot script limits) past → (more : List Turn) × (more ++ past ≡ reverse ended.history.turns.list)) }
+    ensures begins_each { IfOk result (λ ended. (past : List Turn) → Legal asks (world_of boot script limits) past →
+        (more : List Turn) × (more ++ past ≡ reverse ended.history.turns.list)) }
     ensures rises { IfOk result (λ ended. Rises (reverse ended.history.turns.list)) }
 
     ensures crew { IfOk result (λ ended. ended.crew ≡ 1) }

@@ -144,7 +144,8 @@ impl Seats {
         requires cog { key.cog < 8 }
         requires clock { key.clock < 2 ^ 62 }
         requires until { until < 2 ^ 61 }
-        ensures begins { (life : CogLife) → IsStartable origin → IsWindow key.cog key.clock → slice_get self.new.lives.items key.cog ≡ Some life → Begins asks life (begun_by memory.now origin key.cog key.clock) until result }
+        ensures begins { (life : CogLife) → IsStartable origin → IsWindow key.cog key.clock → slice_get self.new.lives.items key.cog ≡ Some life →
+            Begins asks life (begun_by memory.now origin key.cog key.clock) until result }
         ensures others { SameBut key.cog self.old.lives.items self.new.lives.items }
         ensures announced { (life : CogLife) → slice_get self.new.lives.items key.cog ≡ Some life → HasAnnounced life result }
         ensures made { IsMadeNext result }
@@ -165,7 +166,8 @@ impl Seats {
         requires clock { turn.now.key.clock < 2 ^ 62 }
         requires fits { Fits turn.now.access turn.now.answer }
         requires until { until < 2 ^ 61 }
-        ensures takes { (before after : CogLife) → slice_get self.old.lives.items turn.now.key.cog ≡ Some before → slice_get self.new.lives.items turn.now.key.cog ≡ Some after → Takes asks before after turn.now until result }
+        ensures takes { (before after : CogLife) → slice_get self.old.lives.items turn.now.key.cog ≡ Some before →
+            slice_get self.new.lives.items turn.now.key.cog ≡ Some after → Takes asks before after turn.now until result }
         ensures others { SameBut turn.now.key.cog self.old.lives.items self.new.lives.items }
         ensures announced { (life : CogLife) → slice_get self.new.lives.items turn.now.key.cog ≡ Some life → HasAnnounced life result }
         ensures made { IsMadeNext result }
@@ -188,12 +190,16 @@ impl Seats {
         until: u64,
     ) -> Next
         requires cog { turn.now.key.cog < 8 }
-        requires next { (life : CogLife) → running ≡ true → slice_get self.old.lives.items turn.now.key.cog ≡ Some life → IsAnnounced (announced_in life) turn.now }
+        requires next { (life : CogLife) → running ≡ true → slice_get self.old.lives.items turn.now.key.cog ≡ Some life →
+            IsAnnounced (announced_in life) turn.now }
         requires clock { turn.now.key.clock < 2 ^ 62 }
         requires fits { Fits turn.now.access turn.now.answer }
         requires until { until < 2 ^ 61 }
-        ensures takes { (before after : CogLife) → running ≡ true → slice_get self.old.lives.items turn.now.key.cog ≡ Some before → slice_get self.new.lives.items turn.now.key.cog ≡ Some after → Takes asks before after turn.now until result }
-        ensures begins { (life : CogLife) → running ≡ false → IsStartable origin → IsWindow turn.now.key.cog turn.now.key.clock → slice_get self.new.lives.items turn.now.key.cog ≡ Some life → Begins asks life (begun_by memory.now origin turn.now.key.cog turn.now.key.clock) until result }
+        ensures takes { (before after : CogLife) → running ≡ true → slice_get self.old.lives.items turn.now.key.cog ≡ Some before →
+            slice_get self.new.lives.items turn.now.key.cog ≡ Some after → Takes asks before after turn.now until result }
+        ensures begins { (life : CogLife) → running ≡ false → IsStartable origin → IsWindow turn.now.key.cog turn.now.key.clock →
+            slice_get self.new.lives.items turn.now.key.cog ≡ Some life →
+            Begins asks life (begun_by memory.now origin turn.now.key.cog turn.now.key.clock) until result }
         ensures others { SameBut turn.now.key.cog self.old.lives.items self.new.lives.items }
         ensures announced { (life : CogLife) → slice_get self.new.lives.items turn.now.key.cog ≡ Some life → HasAnnounced life result }
         ensures made { IsMadeNext result }

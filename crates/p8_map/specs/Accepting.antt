@@ -3,8 +3,8 @@ use Rattle.std.specs.Prelude.{◌≡◌, ℕ, List, length, map, slice_get, Some
 use Rattle.std.specs.List.{flat_map}
 use Rattle.p8_tree.specs.Sources.{MethodTree}
 use Rattle.p8_tree.specs.Projects.{NamedSource}
-use Rattle.p8_kinds.specs.ConstantEntries.{setting_of}
-use Rattle.p8_kinds.specs.Meanings.{Setting}
+use Rattle.p8_fold.specs.ConstantEntries.{setting_of}
+use Rattle.p8_fold.specs.Meanings.{Setting}
 use Rattle.p8_kinds.specs.declared.name_kinds.Label.{Label}
 use Rattle.p8_constants.specs.FileItems.{Item}
 use Rattle.p8_constants.specs.Standing.{items_of}
@@ -32,7 +32,8 @@ names_by text name f = names_with text name (setting_of f.tables.consts) (items_
 -- the names of each file, of which these are the bytes
 abbrev pub AreNamesAt : (sources : List (List ℕ)) → List NamedSource → List AcceptedFile → ℕ → FileNames → Type 0
 AreNamesAt sources files accepted i names =
-    (bytes : List ℕ) (file : NamedSource) (f : AcceptedFile) → slice_get sources i ≡ Some bytes → slice_get files i ≡ Some file → slice_get accepted i ≡ Some f → names ≡ names_by (text_in bytes) file.name f
+    (bytes : List ℕ) (file : NamedSource) (f : AcceptedFile) → slice_get sources i ≡ Some bytes → slice_get files i ≡ Some file →
+    slice_get accepted i ≡ Some f → names ≡ names_by (text_in bytes) file.name f
 
 pub record AreNamesBy (sources : List (List ℕ)) (files : List NamedSource) (accepted : List AcceptedFile) (all : List FileNames) : Type 0 where
   pub count : length all ≡ length files

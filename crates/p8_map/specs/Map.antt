@@ -1,7 +1,8 @@
 -- The map of a project: the text that tells where everything of it stands in the hub, line by line (this project's profile). A line
 -- ends with a line feed. It begins with an address in four hexadecimal digits and the kind of what stands there; a line of a method's
 -- frame begins with `+` and the offset in the frame. All addresses are told mod 65,536, which is exact in an image that fits the hub.
-use Rattle.std.specs.Prelude.{ℕ, zero, suc, ◌+◌, ◌-◌, ◌*◌, ◌/◌, ◌%◌, ◌==◌, Option, Some, unwrap_or, option_map, List, [], ◌∷◌, ◌++◌, length, map, slice_get, slice_index, codes, if◌then◌else◌}
+use Rattle.std.specs.Prelude.{ℕ, zero, suc, ◌+◌, ◌-◌, ◌*◌, ◌/◌, ◌%◌, ◌==◌, Option, Some, unwrap_or, option_map, List, [], ◌∷◌, ◌++◌, length, map}
+use Rattle.std.specs.Prelude.{slice_get, slice_index, codes, if◌then◌else◌}
 use Rattle.std.specs.Fmt.{decimal}
 use Rattle.std.specs.List.{flat_map}
 use Rattle.p8_kinds.specs.declared.name_kinds.Label.{Label}

@@ -7,7 +7,7 @@ use Rattle.p8_tree.specs.declared.places.Place.{Place}
 use Rattle.p8_tree.specs.Expressions.{Tree}
 use Rattle.p8_tree.specs.Sources.{Child, Declared, MethodTree}
 use Rattle.p8_tree.specs.Projects.{NamedSource}
-use Rattle.p8_kinds.specs.Meanings.{Setting}
+use Rattle.p8_fold.specs.Meanings.{Setting}
 use Rattle.p8_constants.specs.FileItems.{Item, variable, line, items}
 use Rattle.p8_constants.specs.Names.{label_name}
 use Rattle.p8_constants.specs.Rules.{count_in}

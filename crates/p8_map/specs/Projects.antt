@@ -15,7 +15,8 @@ use Rattle.p8_build.specs.Builds.{AreCompiled, objects_of, clock_by}
 
 -- the names of each file, of these bytes, with the constants that it sees and the labels of its DAT
 abbrev pub names_of : (sources : List (List ℕ)) → List NamedSource → List Children → List CompiledFile → List FileNames
-names_of (bytes ∷ sources) (file ∷ files) (seen ∷ children) (x ∷ xs) = file_names (text_in bytes) file (setting_of seen x) x.labels ∷ names_of sources files children xs
+names_of (bytes ∷ sources) (file ∷ files) (seen ∷ children) (x ∷ xs) = file_names (text_in bytes) file (setting_of seen x) x.labels ∷
+    names_of sources files children xs
 names_of _ _ _ _ = []
 
 -- the project is accepted, and this is the map of its image, by the names of its files, whose bytes these are

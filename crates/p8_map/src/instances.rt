@@ -171,7 +171,8 @@ fn push_inner(
     names: &[Text],
     instances: &[u8],
 ) -> Result<(), NoMemory>
-    ensures { OnOk result (all.new ≡ all.old ++ all_inside (instances_within plan.now.files.now plan.now.objects.now plan.now.sizes.now depth) plan.now.sizes.now place prefix.now names.now instances.now) }
+    ensures { OnOk result (all.new ≡ all.old ++ all_inside
+        (instances_within plan.now.files.now plan.now.objects.now plan.now.sizes.now depth) plan.now.sizes.now place prefix.now names.now instances.now) }
 {
     let mut rest = names;
     for file in instances {
@@ -197,7 +198,8 @@ fn push_one(
     place: u16,
     name: &Text,
 ) -> Result<(), NoMemory>
-    ensures { OnOk result (all.new ≡ all.old ++ one_inside (instances_within plan.now.files.now plan.now.objects.now plan.now.sizes.now depth) (slice_index plan.now.sizes.now file) place prefix.now name.now file) }
+    ensures { OnOk result (all.new ≡ all.old ++ one_inside (instances_within plan.now.files.now plan.now.objects.now plan.now.sizes.now depth)
+        (slice_index plan.now.sizes.now file) place prefix.now name.now file) }
 {
     if number_at(plan.sizes, file) == 0 {
         return Ok(());

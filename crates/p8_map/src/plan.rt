@@ -80,7 +80,8 @@ fn all_variables(object: &ObjectPart, sizes: &[u16]) -> u16
 
 /// The bytes of variables of each object with those of the objects inside it, as `sizes` tells them.
 fn one_deeper(alloc: Global, objects: &[ObjectPart], sizes: &[u16]) -> Result<Vec<u16>, NoMemory>
-    ensures { IfOk result (λ deeper. deeper.items ≡ map (λ object. (own_variables object + total (slice_index sizes.now) object.instances) % 65536) objects.now) }
+    ensures { IfOk result (λ deeper. deeper.items ≡ map
+        (λ object. (own_variables object + total (slice_index sizes.now) object.instances) % 65536) objects.now) }
 {
     let mut deeper = Vec::new(alloc);
     for object in objects {

@@ -6,8 +6,8 @@ use Rattle.p8_tree.specs.Names.{result_word}
 use Rattle.p8_tree.specs.Sources.{Source}
 use Rattle.p8_tree.specs.Expressions.{Tree, node, Form, Number, Str, Strings, Here, Var, Call, Unary, Binary, Assign, Change, Address, ObjectAddress, ObjConst, Built, Look, Variable, Named, Part, Memory, Register, Index, no_index, index, Bits, whole, bits, Item, single, range, Trees, no_trees, ◌▷◌, Items, no_items, ◌▸◌}
 use Rattle.p8_words.specs.Operators.{unary_value, binary_value, or_zero}
-use Rattle.p8_kinds.specs.declared.meanings.Meaning.TheVariants as meaning_case
-use Rattle.p8_kinds.specs.Values as constants
+use Rattle.p8_fold.specs.declared.meanings.Meaning.TheVariants as meaning_case
+use Rattle.p8_fold.specs.Values as constants
 use Rattle.p8_kinds.specs.declared.name_kinds.NameKind.{NameKind}
 use Rattle.p8_kinds.specs.declared.name_kinds.NameKind.TheVariants as kind_case
 use Rattle.p8_kinds.specs.FileSettings.{meaning_of_kind}

@@ -15,7 +15,7 @@ use Rattle.p8_tree.specs.declared.expressions.Call.{out-Call, roll-Call}
 use Rattle.p8_tree.specs.Expressions.{Tree, node, Form, Strings, Call, Built, Look, Trees, no_trees, ◌▷◌, ◌▸◌}
 use Rattle.p8_tree.specs.Views.{tree_of, form_of, trees_of, trees_after, items_of, item_of, call_of}
 use Rattle.p8_tree.specs.Bridges.{boxed_index, call_is, strings_is, built_is, look_is, trees_of-push, items_of-push}
-use Rattle.p8_kinds.proofs.ValueRows.{call_form}
+use Rattle.p8_fold.proofs.ValueRows.{call_form}
 use Rattle.p8_meaning.specs.Constants.{Constants}
 use Rattle.p8_meaning.specs.Folding.{tree_with, form_with, trees_with, items_with, item_with, index_with, arguments_with}
 use Rattle.p8_meaning.specs.declared.building.Copied.{Copied}

@@ -38,7 +38,8 @@ calls callee s stops target arguments return abort =
 
 -- A call of an object's method: the index of the instance is below their number, and 0 where none is written. Another index halts
 -- (profile), before it is looked at how many methods are active.
-abbrev pub calls_object : Callee → Scope → (stops : Bool) → (item position count index : ℕ) → (method : List ℕ) → List ℕ → (return abort : Returned → Rest) → Rest
+abbrev pub calls_object : Callee → Scope → (stops : Bool) → (item position count index : ℕ) → (method : List ℕ) → List ℕ →
+    (return abort : Returned → Rest) → Rest
 calls_object callee s stops item position count index method arguments return abort =
     if nat_lt index count then calls callee s stops (object_target s item (position + index) method) arguments return abort
     else halts Why.Table

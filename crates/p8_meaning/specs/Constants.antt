@@ -4,9 +4,9 @@
 use Rattle.std.specs.Prelude.{ℕ, ◌+◌, ◌-◌, ◌^◌, ◌==◌, ◌||◌, nat_lt, nat_le, List, Option, Some, None, option_map, if◌then◌else◌}
 use Rattle.p8_tree.specs.Expressions.{Tree, node, Number, Var, Unary, Binary, ObjConst, Variable, Named, no_index}
 use Rattle.p8_words.specs.Operators.{unary_value, binary_value, or_zero}
-use Rattle.p8_kinds.specs.declared.meanings.Meaning.{Meaning}
-use Rattle.p8_kinds.specs.declared.meanings.Meaning.TheVariants.{Value, Object}
-use Rattle.p8_kinds.specs.Meanings.{Setting, meaning_of}
+use Rattle.p8_fold.specs.declared.meanings.Meaning.{Meaning}
+use Rattle.p8_fold.specs.declared.meanings.Meaning.TheVariants.{Value, Object}
+use Rattle.p8_fold.specs.Meanings.{Setting, meaning_of}
 
 -- ---- names
 

@@ -5,7 +5,7 @@ use Rattle.p8_tree.specs.declared.statements.Stmt as stmt
 use Rattle.p8_tree.specs.Expressions.{Tree, node}
 use Rattle.p8_tree.specs.Statements.{Arm, arm, Arms}
 use Rattle.p8_tree.specs.Views.{arms_of, statements_of}
-use Rattle.p8_kinds.specs.ConstantEntries.{setting_of}
+use Rattle.p8_fold.specs.ConstantEntries.{setting_of}
 use Rattle.p8_meaning.specs.Constants.{Constants, constants_in}
 use Rattle.p8_meaning.specs.Folding.{number_or, Chain, Going, Ended, Condition, Known, Unknown, NoTest, folded_items, folded_body}
 use Rattle.p8_meaning.specs.declared.folder.Folder.{Folder}

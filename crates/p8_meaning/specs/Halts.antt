@@ -3,7 +3,8 @@ use Rattle.std.specs.Prelude.{All}
 use Rattle.p8_access.specs.declared.kinds.Reason.{Reason}
 use Rattle.p8_access.specs.declared.kinds.Reason.TheVariants as Why
 use Rattle.p8_access.specs.declared.kinds.Access.{Access}
-use Rattle.p8_access.specs.declared.kinds.Access.TheVariants.{Begin, Load, Read, Write, CogId, CogInit, CogStop, LockNew, LockRet, LockSet, LockClr, ClkSet, PinsIn, OutSet, DirSet, Wait, Clock, Halt}
+use Rattle.p8_access.specs.declared.kinds.Access.TheVariants.{Begin, Load, Read, Write, CogId, CogInit, CogStop, LockNew, LockRet, LockSet, LockClr}
+use Rattle.p8_access.specs.declared.kinds.Access.TheVariants.{ClkSet, PinsIn, OutSet, DirSet, Wait, Clock, Halt}
 use Rattle.p8_access.specs.Courses.{Told, Wants, Leaves, Closes}
 
 -- the halts of a source (profile): a read of ROM, one method too many, an index beyond the instances of an object, a port that isn't there

@@ -1,14 +1,15 @@
 -- What a method is read in: the files of a project, what the names of each are, and the addresses of an image.
 -- Sources: the Propeller Manual v1.2, "Objects and Variables", "PUB", "PRI", "OBJ" and "DAT" of the Spin chapter.
-use Rattle.std.specs.Prelude.{ℕ, ◌+◌, ◌*◌, ◌%◌, ◌^◌, List, [], ◌∷◌, ◌++◌, length, slice_get, filter_map, option_map, zero, suc, Option, Some, None, if◌then◌else◌}
+use Rattle.std.specs.Prelude.{ℕ, ◌+◌, ◌*◌, ◌%◌, ◌^◌, List, [], ◌∷◌, ◌++◌, length, slice_get, filter_map, option_map, zero, suc, Option, Some, None}
+use Rattle.std.specs.Prelude.{if◌then◌else◌}
 use Rattle.std.specs.Str.{bytes_eq}
 use Rattle.p8_tree.specs.declared.places.Place.{Place}
 use Rattle.p8_tree.specs.Expressions.{Tree}
 use Rattle.p8_tree.specs.Sources.{Source, BlockTree, Method, MethodTree, Declared}
 use Rattle.p8_words.specs.Operators.{or_zero}
-use Rattle.p8_kinds.specs.declared.meanings.Meaning.TheVariants as meaning_case
-use Rattle.p8_kinds.specs.Meanings.{Setting, outside_operands}
-use Rattle.p8_kinds.specs.Values.{value}
+use Rattle.p8_fold.specs.declared.meanings.Meaning.TheVariants as meaning_case
+use Rattle.p8_fold.specs.Meanings.{Setting, outside_operands}
+use Rattle.p8_fold.specs.Values.{value}
 use Rattle.p8_kinds.specs.declared.name_kinds.NameKind.{NameKind}
 use Rattle.p8_kinds.specs.declared.name_kinds.NameKind.TheVariants as kind_case
 use Rattle.p8_kinds.specs.declared.children.Child.{Child}

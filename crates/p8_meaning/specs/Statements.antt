@@ -3,7 +3,8 @@
 use Rattle.std.specs.Prelude.{ℕ, ◌==◌, Bool, Option, Some, None, if◌then◌else◌}
 use Rattle.p8_tree.specs.Expressions.{Tree, Item, single, range, Items, no_items, ◌▸◌}
 use Rattle.p8_tree.specs.declared.places.Place.{Place}
-use Rattle.p8_tree.specs.Statements.{Course, Forever, Count, Before, After, From, Statement, statement, Action, Do, If, Case, Repeat, Next, Quit, Return, Abort, arm, Otherwise, nothing_else, otherwise, Statements, no_statements, ◌▹◌, Arms, no_arms, ◌⊳◌}
+use Rattle.p8_tree.specs.Statements.{Course, Forever, Count, Before, After, From, Statement, statement, Action, Do, If, Case, Repeat, Next, Quit}
+use Rattle.p8_tree.specs.Statements.{Return, Abort, arm, Otherwise, nothing_else, otherwise, Statements, no_statements, ◌▹◌, Arms, no_arms, ◌⊳◌}
 use Rattle.p8_meaning.specs.Values.{is_between, difference, holds, stepped}
 use Rattle.p8_meaning.specs.Programs.{Scope}
 use Rattle.p8_meaning.specs.Doing.{Rest, Gives, untold, for_statement, comes_back}

@@ -1,9 +1,10 @@
 // Copies of expressions, from copies of their parts.
 ghost use Rattle.std.specs.Prelude.{◌≡◌, IfOk, OnOk, None};
-ghost use Rattle.p8_tree.specs.Expressions.{node, Number, Str, Strings, Var, Unary, Binary, Assign, ObjConst, Built, Look, Named, Part, Memory, Register, single, range, bits};
+ghost use Rattle.p8_tree.specs.Expressions.{node, Number, Str, Strings, Var, Unary, Binary, Assign, ObjConst, Built, Look, Named, Part, Memory};
+ghost use Rattle.p8_tree.specs.Expressions.{Register, single, range, bits};
 ghost use Rattle.p8_tree.specs.Views.{tree_of, form_of, variable_of, trees_of, items_of, item_of};
 ghost use Rattle.p8_tree.specs.Bridges.{boxed_index};
-ghost use Rattle.p8_kinds.specs.Verdicts.{boxed_bits};
+ghost use Rattle.p8_fold.specs.Verdicts.{boxed_bits};
 ghost use Rattle.p8_meaning.specs.Known.{known_before, known_between, shorter_known};
 ghost use Rattle.p8_meaning.specs.Copies.{with_number};
 

@@ -3,14 +3,14 @@ ghost use Rattle.std.specs.Prelude.{◌≡◌, IfOk};
 ghost use Rattle.p8_tree.specs.Expressions.{no_items, ◌▸◌};
 ghost use Rattle.p8_tree.specs.Statements.{no_arms, ◌⊳◌};
 ghost use Rattle.p8_tree.specs.Views.{items_of, item_of, arm_of, arms_of, statements_of};
-ghost use Rattle.p8_kinds.specs.ConstantEntries.{setting_of};
+ghost use Rattle.p8_fold.specs.ConstantEntries.{setting_of};
 ghost use Rattle.p8_meaning.specs.Constants.{constants_in};
 ghost use Rattle.p8_meaning.specs.Folding.{Going, Ended, known, condition, with_arm};
 ghost use Rattle.p8_meaning.specs.Copies.{condition_of, chain_of};
 
 use crate::known::constant_value;
 use crate::loops::holds;
-use p8_kinds::Consts;
+use p8_fold::Consts;
 use p8_tree::{Arm, Item, Stmt};
 use std::alloc::{AllocError, Global};
 

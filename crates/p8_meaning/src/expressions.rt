@@ -3,7 +3,7 @@ ghost use Rattle.std.specs.Prelude.{◌≡◌, IfOk};
 ghost use Rattle.p8_tree.specs.Expressions.{node};
 ghost use Rattle.p8_tree.specs.Views.{tree_of, form_of, variable_of, call_of, trees_of, items_of, item_of};
 ghost use Rattle.p8_tree.specs.Bridges.{boxed_index};
-ghost use Rattle.p8_kinds.specs.Verdicts.{boxed_bits};
+ghost use Rattle.p8_fold.specs.Verdicts.{boxed_bits};
 ghost use Rattle.p8_meaning.specs.Folding.{tree_with, form_with, variable_with, index_with, bits_with, item_with, trees_with, items_with};
 ghost use Rattle.p8_meaning.specs.Known.{number_by, known_of};
 ghost use Rattle.p8_meaning.specs.Copies.{constants_of};

@@ -1,5 +1,5 @@
 // What trees are folded by.
-use p8_kinds::Consts;
+use p8_fold::Consts;
 use std::alloc::Global;
 
 /// Folds trees by what names mean, into memory of its own.

@@ -1,12 +1,12 @@
 // What is known of constant trees: their values, and how long their code is.
 ghost use Rattle.std.specs.Prelude.{◌≡◌};
 ghost use Rattle.p8_tree.specs.Views.{tree_of, variable_of};
-ghost use Rattle.p8_kinds.specs.ConstantEntries.{setting_of};
+ghost use Rattle.p8_fold.specs.ConstantEntries.{setting_of};
 ghost use Rattle.p8_meaning.specs.Constants.{value_meant, value_of_name, constants_in, both, constant_value, number_length, unary_length};
 ghost use Rattle.p8_words.specs.Operators.{binary_value};
 ghost use Rattle.p8_meaning.specs.Known.{longer, known_number, known_before, known_between, shorter_known, for_arguments};
 
-use p8_kinds::{Consts, Meaning};
+use p8_fold::{Consts, Meaning};
 use p8_tree::{Expr, ExprKind, Target, Text};
 use p8_words::{binary, unary};
 

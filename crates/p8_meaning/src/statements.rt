@@ -3,15 +3,16 @@ ghost use Rattle.std.specs.Prelude.{◌≡◌, IfOk, OnOk};
 ghost use Rattle.p8_tree.specs.Statements.{statement, ◌▹◌, Do, Case, Return, Abort};
 ghost use Rattle.p8_tree.specs.Views.{tree_of, course_of, action_of, arm_of, arms_of, statement_of, statements_of};
 ghost use Rattle.p8_tree.specs.Bridges.{other_body};
-ghost use Rattle.p8_kinds.specs.ConstantEntries.{setting_of};
+ghost use Rattle.p8_fold.specs.ConstantEntries.{setting_of};
 ghost use Rattle.p8_meaning.specs.Constants.{constants_in};
-ghost use Rattle.p8_meaning.specs.Folding.{folded, folded_inside, folded_course, kept, loop, whole_chain, chain, joined, folded_statement, folded_body, folded_chain, folded_arms};
+ghost use Rattle.p8_meaning.specs.Folding.{folded, folded_inside, folded_course, kept, loop, whole_chain, chain, joined, folded_statement};
+ghost use Rattle.p8_meaning.specs.Folding.{folded_body, folded_chain, folded_arms};
 ghost use Rattle.p8_meaning.specs.Copies.{constants_of, chain_of, folded_arm};
 
 use crate::chains::{Chain, condition_of_arm};
 use crate::folder::Folder;
 use crate::known::Numbers;
-use p8_kinds::Consts;
+use p8_fold::Consts;
 use p8_tree::{Arm, Expr, List, Loop, Place, Stmt, StmtKind};
 use p8_words::NoMemory;
 use std::alloc::{AllocError, Global};
@@ -92,7 +93,8 @@ fn put_chain(
 impl Folder<'_> {
     // Puts an expression as a statement after other statements.
     fn put_action(&self, out: &mut Vec<Stmt>, place: Place, expr: &Expr) -> Result<(), AllocError>
-        ensures { OnOk result (statements_of out.new.items ≡ statements_of out.old.items ▹ statement place (Do (folded_inside (constants_of self.now) (tree_of expr.now)))) }
+        ensures { OnOk result (statements_of out.new.items ≡
+            statements_of out.old.items ▹ statement place (Do (folded_inside (constants_of self.now) (tree_of expr.now)))) }
     {
         let copy = self.form(Numbers::Shorter, expr.place, &expr.kind)?;
         push(out, place, StmtKind::Do(copy.into_tree()))
@@ -107,7 +109,8 @@ impl Folder<'_> {
         arms: Vec<Arm>,
         other: Option<Vec<Stmt>>,
     ) -> Result<(), AllocError>
-        ensures { OnOk result (statements_of out.new.items ≡ statements_of out.old.items ▹ statement place (Case (folded (constants_of self.now) (tree_of value.now)) (arms_of arms.items) (other_body other))) }
+        ensures { OnOk result (statements_of out.new.items ≡
+            statements_of out.old.items ▹ statement place (Case (folded (constants_of self.now) (tree_of value.now)) (arms_of arms.items) (other_body other))) }
     {
         let value = Box::into_inner(self.value(value)?);
         push(out, place, StmtKind::Case(value, arms, other))
@@ -121,7 +124,9 @@ impl Folder<'_> {
         course: &Loop,
         body: Vec<Stmt>,
     ) -> Result<(), AllocError>
-        ensures { OnOk result (statements_of out.new.items ≡ joined (statements_of out.old.items) (loop place (kept (folded_course (constants_of self.now) (course_of course.now))) (statements_of body.items))) }
+        ensures { OnOk result (statements_of out.new.items ≡
+            joined (statements_of out.old.items) (loop place (kept (folded_course (constants_of self.now) (course_of course.now)))
+            (statements_of body.items))) }
     {
         match self.course(course)? {
             None => {
@@ -147,7 +152,8 @@ impl Folder<'_> {
     // Puts what becomes of a statement after other statements.
     #[cycle(statements)]
     fn put_statement(&self, statement: &Stmt, out: &mut Vec<Stmt>) -> Result<(), AllocError>
-        ensures { OnOk result (statements_of out.new.items ≡ joined (statements_of out.old.items) (folded_statement (constants_of self.now) (statement_of statement.now))) }
+        ensures { OnOk result (statements_of out.new.items ≡
+            joined (statements_of out.old.items) (folded_statement (constants_of self.now) (statement_of statement.now))) }
     {
         let place = statement.place;
         match &statement.kind {

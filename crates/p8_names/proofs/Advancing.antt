@@ -5,7 +5,7 @@ use Rattle.std.proofs.lemmas.List.{drop_more, drop_all}
 use Rattle.std.specs.Prelude.{min, if◌then◌else◌, nat_lt, not}
 use Rattle.std.specs.List.{flat_map}
 use Rattle.p8_tree.specs.Sources.{Child}
-use Rattle.p8_kinds.specs.Meanings.{Setting}
+use Rattle.p8_fold.specs.Meanings.{Setting}
 use Rattle.p8_constants.specs.declared.items.Item as code
 use Rattle.p8_constants.specs.FileItems.{Item, constant, variable, object, method, line}
 use Rattle.p8_constants.specs.Standing.{item_of, items_of}

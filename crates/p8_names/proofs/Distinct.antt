@@ -11,7 +11,7 @@ use Rattle.p8_tree.specs.Proper.{IsProperMethod, is_nothing}
 use Rattle.p8_tree.specs.declared.faults.Fault.{Fault}
 use Rattle.p8_tree.specs.Faults.{fault}
 use Rattle.p8_tree.specs.declared.refusal.Refusal.TheVariants.{Duplicate}
-use Rattle.p8_kinds.specs.Meanings.{Setting}
+use Rattle.p8_fold.specs.Meanings.{Setting}
 use Rattle.p8_constants.specs.FileItems.{Item, constant, variable, object, method, line, items}
 use Rattle.p8_constants.specs.Names.{Defined, name_of, place_of, names_of, defined_before, spelled, file_names, predefined, predefined_names, params_of, result_of, local_of, own_names}
 use Rattle.p8_constants.specs.Repeats.{RepeatIn, HasOwnRepeat}

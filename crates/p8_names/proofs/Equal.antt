@@ -1,9 +1,9 @@
 -- Settings and environments that say the same are the same.
 use Rattle.std.proofs.Common.{◌≡◌, ℕ, List, Option, ap, ◌∙◌}
 use mathlib.Core.Path.{fun_ext}
-use Rattle.p8_kinds.specs.declared.meanings.Meaning.{Meaning}
-use Rattle.p8_kinds.specs.declared.meanings.Here.{Here}
-use Rattle.p8_kinds.specs.Meanings.{Setting}
+use Rattle.p8_fold.specs.declared.meanings.Meaning.{Meaning}
+use Rattle.p8_fold.specs.declared.meanings.Here.{Here}
+use Rattle.p8_fold.specs.Meanings.{Setting}
 use Rattle.p8_kinds.specs.declared.name_kinds.NameKind.{NameKind}
 use Rattle.p8_kinds.specs.Environments.{Environment}
 

@@ -2,7 +2,7 @@
 use Rattle.std.proofs.Common.{◌≡◌, ℕ, Bool, true, false, ◌<◌, ◌≤◌, List, Option, Some, None, refl, ap, ◌∙◌, arith}
 use Rattle.std.specs.Prelude.{if◌then◌else◌, not}
 use Rattle.p8_tree.specs.Names.{is_local}
-use Rattle.p8_kinds.specs.ConstantEntries.{setting_of}
+use Rattle.p8_fold.specs.ConstantEntries.{setting_of}
 use Rattle.p8_constants.specs.FileItems.{Item}
 use Rattle.p8_kinds.specs.declared.kinds.Kinds.{Kinds}
 use Rattle.p8_kinds.specs.declared.scope.Scope.{Scope}

@@ -7,7 +7,7 @@ use Rattle.std.specs.Map.{lookup}
 use Rattle.std.specs.Str.{bytes_eq}
 use Rattle.p8_tree.specs.Sources.{MethodTree}
 use Rattle.p8_tree.specs.declared.faults.Fault.{Fault}
-use Rattle.p8_kinds.specs.Meanings.{Setting}
+use Rattle.p8_fold.specs.Meanings.{Setting}
 use Rattle.p8_constants.specs.FileItems.{Item}
 use Rattle.p8_constants.specs.Standing.{IsFirstOf}
 use Rattle.p8_kinds.specs.declared.kinds.Kinds.{Kinds}

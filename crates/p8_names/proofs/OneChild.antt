@@ -2,10 +2,10 @@
 use Rattle.std.proofs.Common.{◌≡◌, ◌⊎◌, inl, inr, ℕ, List, Option, Some, None, IsSome, refl, sym, ap, ◌∙◌}
 use mathlib.Core.Path.{fun_ext}
 use Rattle.p8_tree.specs.Sources.{Source}
-use Rattle.p8_kinds.specs.declared.meanings.Meaning.{Meaning}
-use Rattle.p8_kinds.specs.declared.meanings.Meaning.TheVariants.{Value}
-use Rattle.p8_kinds.specs.declared.meanings.Here.{Here}
-use Rattle.p8_kinds.specs.Meanings.{Setting}
+use Rattle.p8_fold.specs.declared.meanings.Meaning.{Meaning}
+use Rattle.p8_fold.specs.declared.meanings.Meaning.TheVariants.{Value}
+use Rattle.p8_fold.specs.declared.meanings.Here.{Here}
+use Rattle.p8_fold.specs.Meanings.{Setting}
 use Rattle.p8_constants.specs.Items as con
 use Rattle.p8_constants.specs.Constants.{scope_of}
 use Rattle.p8_constants.proofs.OneValue.{has_one}

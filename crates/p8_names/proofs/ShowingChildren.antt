@@ -8,7 +8,7 @@ use Rattle.std.proofs.lemmas.List.{take_more, map_push, at_drop_more}
 use Rattle.std.proofs.lemmas.List.Elements.{filter_map-append}
 use Rattle.std.proofs.lemmas.Slice.Eq.{bytes_eq-Decides}
 use Rattle.p8_tree.specs.Sources as trees
-use Rattle.p8_kinds.specs.Meanings.{Setting}
+use Rattle.p8_fold.specs.Meanings.{Setting}
 use Rattle.p8_constants.specs.declared.items.Item.{Item}
 use Rattle.p8_constants.specs.Standing.{item_of, items_of}
 use Rattle.p8_kinds.specs.declared.children.ChildMethod.{ChildMethod}

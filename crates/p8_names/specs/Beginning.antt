@@ -1,7 +1,7 @@
 -- internal: what is known of a file's names before their uses are looked at.
 use Rattle.std.specs.Prelude.{◌≡◌, ◌<◌, ℕ, List, None}
 use Rattle.p8_tree.specs.Sources.{Source}
-use Rattle.p8_kinds.specs.ConstantEntries.{setting_of}
+use Rattle.p8_fold.specs.ConstantEntries.{setting_of}
 use Rattle.p8_constants.specs.Constants.{IsConstantFault}
 use Rattle.p8_constants.specs.FileItems.{items}
 use Rattle.p8_constants.specs.Names.{predefined}

@@ -5,9 +5,9 @@ use Rattle.std.specs.Str.{bytes_eq}
 use Rattle.p8_constants.specs.declared.name_set.NameSet.{NameSet}
 use Rattle.p8_constants.specs.Standing.{Holds}
 use Rattle.p8_kinds.specs.declared.children.Child.{Child}
-use Rattle.p8_kinds.specs.declared.meanings.Meaning.{Meaning}
-use Rattle.p8_kinds.specs.declared.meanings.Meaning.TheVariants as meaning_case
-use Rattle.p8_kinds.specs.Meanings.{Setting}
+use Rattle.p8_fold.specs.declared.meanings.Meaning.{Meaning}
+use Rattle.p8_fold.specs.declared.meanings.Meaning.TheVariants as meaning_case
+use Rattle.p8_fold.specs.Meanings.{Setting}
 use Rattle.p8_names.specs.Settings.{has_name, constant_of_child}
 
 -- with this meaning at a name, where there is one

@@ -8,7 +8,7 @@ use Rattle.std.specs.Prelude.{◌≡◌, ℕ, min, length, if◌then◌else◌, 
 use Rattle.p8_tree.specs.Sources as trees
 use Rattle.p8_tree.specs.Sources.{MethodTree, Source}
 use Rattle.p8_tree.specs.Projects.{NamedSource}
-use Rattle.p8_kinds.specs.Meanings.{Setting}
+use Rattle.p8_fold.specs.Meanings.{Setting}
 use Rattle.p8_constants.specs.FileItems.{Item, constant, method, items}
 use Rattle.p8_constants.specs.Names.{name_of, predefined_names}
 use Rattle.p8_kinds.specs.declared.children.Child.{Child}

@@ -6,7 +6,7 @@ use Rattle.p8_kinds.specs.declared.kinds.Kinds.{Kinds}
 use Rattle.p8_kinds.specs.declared.name_kinds.NameKind.{NameKind}
 use Rattle.p8_kinds.specs.Kinds.{own, or_else}
 use Rattle.p8_names.specs.Settings.{has_name}
-use Rattle.p8_kinds.specs.Meanings.{Setting}
+use Rattle.p8_fold.specs.Meanings.{Setting}
 use Rattle.p8_tree.specs.Proper.{IsSize}
 use Rattle.p8_constants.specs.FileItems.{Item, constant, variable, line}
 use Rattle.p8_names.specs.declared.next_kinds.Next.{Next}

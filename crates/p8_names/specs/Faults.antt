@@ -6,7 +6,7 @@ use Rattle.p8_tree.specs.Sources as trees
 use Rattle.p8_tree.specs.Sources.{Contents, Datum, Declared, MethodTree, Source}
 use Rattle.p8_tree.specs.declared.faults.Fault.{Fault}
 use Rattle.p8_tree.specs.Names.{is_local}
-use Rattle.p8_kinds.specs.Meanings.{Setting}
+use Rattle.p8_fold.specs.Meanings.{Setting}
 use Rattle.p8_constants.specs.Constants.{IsConstantFault}
 use Rattle.p8_constants.specs.FileItems.{Item, line, items}
 use Rattle.p8_constants.specs.Names.{file_names}

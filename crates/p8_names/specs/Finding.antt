@@ -31,7 +31,8 @@ abbrev pub NoneLeadsOn : List (List ℕ) → List ℕ → Type 0
 NoneLeadsOn g order = (q place t : ℕ) → q ≤ place → place < length order → Contains (targets_of g (slice_index order q)) t → ¬ (t ≡ slice_index order place)
 
 -- a file has been looked at: its children are what is seen of its targets, and what is seen of itself stands at its number
-pub record IsLookedAt (file : Source) (targets : List ℕ) (node : ℕ) (children : List Children) (seen : List Child) (children_now : List Children) (seen_now : List Child) : Type 0 where
+pub record IsLookedAt (file : Source) (targets : List ℕ) (node : ℕ) (children : List Children) (seen : List Child) (children_now : List Children)
+    (seen_now : List Child) : Type 0 where
   pub own : Children
   pub child : Child
   pub from : own.items ≡ filter_map (slice_get seen) targets

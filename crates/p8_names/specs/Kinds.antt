@@ -12,7 +12,7 @@ use Rattle.std.specs.Map.{lookup}
 use Rattle.std.specs.Str.{bytes_eq}
 use Rattle.p8_tree.specs.Sources as trees
 use Rattle.p8_tree.specs.Sources.{Contents, Datum, Declared, MethodTree}
-use Rattle.p8_kinds.specs.Meanings.{Setting, meaning_of, given, value_of_meaning}
+use Rattle.p8_fold.specs.Meanings.{Setting, meaning_of, given, value_of_meaning}
 use Rattle.p8_constants.specs.Constants.{counted}
 use Rattle.p8_constants.specs.FileItems.{Item, constant, variable, object, method, line}
 use Rattle.p8_constants.specs.Names.{name_of, own_names, spelled}
@@ -131,7 +131,8 @@ value_in s (Some n) = counted (given value_of_meaning (meaning_of s n))
 abbrev pub item_kind : Setting → List Item → List Item → Item → List Item → NameKind
 item_kind s all before (constant x) behind = kind.Const (value_in s x.name)
 item_kind s all before (variable x) behind = kind.Global x.size (offset_in s all before x.size)
-item_kind s all before (object x) behind = kind.Object (length (objects before)) (min (position_in s all before) greatest_number) (min (count_in s x.count) greatest_number)
+item_kind s all before (object x) behind = kind.Object (length (objects before)) (min (position_in s all before) greatest_number)
+    (min (count_in s x.count) greatest_number)
 item_kind s all before (method m) behind = kind.Method (min (number_in all before m.public) greatest_number) (min (length m.params) greatest_number)
 item_kind s all before (line x) behind = kind.Label (label_size (line x ∷ behind))
 

@@ -6,9 +6,9 @@ use Rattle.std.specs.Prelude.{◌≡◌, ℕ, Bool, false, ◌||◌, if◌then�
 use Rattle.std.specs.Map.{lookup}
 use Rattle.std.specs.Str.{bytes_eq}
 use Rattle.p8_tree.specs.Sources.{Source}
-use Rattle.p8_kinds.specs.declared.meanings.Meaning.{Meaning}
-use Rattle.p8_kinds.specs.declared.meanings.Meaning.TheVariants as meaning_case
-use Rattle.p8_kinds.specs.Meanings.{Setting, outside_operands}
+use Rattle.p8_fold.specs.declared.meanings.Meaning.{Meaning}
+use Rattle.p8_fold.specs.declared.meanings.Meaning.TheVariants as meaning_case
+use Rattle.p8_fold.specs.Meanings.{Setting, outside_operands}
 use Rattle.p8_constants.specs.Items as con
 use Rattle.p8_constants.specs.Constants.{scope_of, IsConstant, Has}
 use Rattle.p8_constants.specs.FileItems.{Item, constant, object, items}
@@ -84,7 +84,8 @@ outside file children = outside_of (items file) children
 -- what the names of a file mean
 pub record IsSetting (file : Source) (children : List Child) (s : Setting) : Type 0 where
   pub others : (n : List ℕ) → IsSome ((outside file children).name n) → s.name n ≡ (outside file children).name n
-  pub constants : (n : List ℕ) → IsConstant (scope_of (outside file children) file) n → (v : ℕ) × (s.name n ≡ Some (meaning_case.Value v)) × Has (scope_of (outside file children) file) n v
+  pub constants : (n : List ℕ) → IsConstant (scope_of (outside file children) file) n →
+      (v : ℕ) × (s.name n ≡ Some (meaning_case.Value v)) × Has (scope_of (outside file children) file) n v
   pub nothing : (n : List ℕ) → (outside file children).name n ≡ None → con.definition (con.definitions file) n ≡ None → s.name n ≡ None
   pub behind : (owner n : List ℕ) → s.constant owner n ≡ (outside file children).constant owner n
   pub here : s.here ≡ (outside file children).here

@@ -1,8 +1,8 @@
 -- When what names mean, where a constant is needed, are words.
 use Rattle.std.specs.Prelude.{◌≡◌, ℕ, ◌^◌, ◌<◌, List, Option, Some, None}
-use Rattle.p8_kinds.specs.declared.meanings.Meaning.{Meaning}
-use Rattle.p8_kinds.specs.declared.meanings.Meaning.TheVariants as meaning_case
-use Rattle.p8_kinds.specs.Meanings.{Setting, outside_operands}
+use Rattle.p8_fold.specs.declared.meanings.Meaning.{Meaning}
+use Rattle.p8_fold.specs.declared.meanings.Meaning.TheVariants as meaning_case
+use Rattle.p8_fold.specs.Meanings.{Setting, outside_operands}
 
 -- it has a word as its value, or none, and no address
 abbrev pub IsWord : Option Meaning → Type 0

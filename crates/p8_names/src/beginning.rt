@@ -2,7 +2,7 @@
 ghost use Rattle.std.specs.Prelude.{◌≡◌, IfOk};
 ghost use Rattle.p8_tree.specs.Proper.{IsProperFile};
 ghost use Rattle.p8_tree.specs.Views.{source_of};
-ghost use Rattle.p8_kinds.specs.ConstantEntries.{setting_of};
+ghost use Rattle.p8_fold.specs.ConstantEntries.{setting_of};
 ghost use Rattle.p8_constants.specs.Constants.{IsConstantFault};
 ghost use Rattle.p8_constants.specs.FileItems.{items as all_items};
 ghost use Rattle.p8_constants.specs.Names.{predefined as table};
@@ -13,7 +13,8 @@ ghost use Rattle.p8_names.specs.Beginning.{IsBegun};
 use crate::file_kinds::file_kinds;
 use crate::outside::outside;
 use p8_constants::{Found, Item, NamedConstant, constants_of, items_of, predefined};
-use p8_kinds::{Children, Consts, Scope, publics_of};
+use p8_fold::Consts;
+use p8_kinds::{Children, Scope, publics_of};
 use p8_tree::{Fault, SourceFile};
 use p8_words::NoMemory;
 use std::alloc::Global;

@@ -1,7 +1,7 @@
 // What is seen of a file.
 ghost use Rattle.std.specs.Prelude.{◌≡◌, ℕ, List, ◌++◌, Some, IfOk, OnOk};
 ghost use Rattle.p8_tree.specs.Views.{method_of, source_of};
-ghost use Rattle.p8_kinds.specs.ConstantEntries.{setting_of};
+ghost use Rattle.p8_fold.specs.ConstantEntries.{setting_of};
 ghost use Rattle.p8_constants.specs.FileItems.{method as method_tree};
 ghost use Rattle.p8_constants.specs.Names.{predefined_names};
 ghost use Rattle.p8_constants.specs.Standing.{item_of, items_of, Holds};
@@ -11,7 +11,8 @@ ghost use Rattle.p8_names.specs.Children.{shown_name, method_at, methods_from, n
 
 use crate::beginning::constants_in;
 use p8_constants::{Item, NameSet, items_of, predefined_names};
-use p8_kinds::{Child, ChildConst, ChildMethod, Children, Consts, Meaning};
+use p8_fold::{Consts, Meaning};
+use p8_kinds::{Child, ChildConst, ChildMethod, Children};
 use p8_tree::{List, Method, SourceFile, Text};
 use p8_words::NoMemory;
 use std::alloc::{AllocError, Global};
@@ -89,7 +90,8 @@ fn put_public(
     before: &NameSet,
     method: &Method,
 ) -> Result<(), AllocError>
-    ensures { OnOk result ((names : List (List ℕ)) → Holds before.now names → methods.new ≡ methods.old ++ method_at names (method_tree (method_of method.now))) }
+    ensures { OnOk result ((names : List (List ℕ)) → Holds before.now names →
+        methods.new ≡ methods.old ++ method_at names (method_tree (method_of method.now))) }
 {
     if !method.public {
         return Ok(());
@@ -119,7 +121,8 @@ fn put_constant(
     consts: &Consts,
     item: Item<'_>,
 ) -> Result<(), AllocError>
-    ensures { OnOk result ((names : List (List ℕ)) → Holds before.now names → constants.new ≡ constants.old ++ constant_at (setting_of consts.now) names (item_of item.entry)) }
+    ensures { OnOk result ((names : List (List ℕ)) → Holds before.now names →
+        constants.new ≡ constants.old ++ constant_at (setting_of consts.now) names (item_of item.entry)) }
 {
     match item {
         Item::Constant(constant) => put_named(alloc, constants, before, consts, &constant.name),
@@ -134,7 +137,8 @@ fn put_named(
     consts: &Consts,
     name: &Option<Text>,
 ) -> Result<(), AllocError>
-    ensures { OnOk result ((names : List (List ℕ)) → Holds before.now names → constants.new ≡ constants.old ++ named_constant (setting_of consts.now) names name.now) }
+    ensures { OnOk result ((names : List (List ℕ)) → Holds before.now names →
+        constants.new ≡ constants.old ++ named_constant (setting_of consts.now) names name.now) }
 {
     match name {
         None => Ok(()),
@@ -149,7 +153,8 @@ fn put_first(
     consts: &Consts,
     name: &Text,
 ) -> Result<(), AllocError>
-    ensures { OnOk result ((names : List (List ℕ)) → Holds before.now names → constants.new ≡ constants.old ++ named_constant (setting_of consts.now) names (Some name.now)) }
+    ensures { OnOk result ((names : List (List ℕ)) → Holds before.now names →
+        constants.new ≡ constants.old ++ named_constant (setting_of consts.now) names (Some name.now)) }
 {
     if is_one_of(before, name) {
         return Ok(());

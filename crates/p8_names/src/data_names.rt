@@ -3,7 +3,7 @@ ghost use Rattle.std.specs.Prelude.{◌≡◌, ◌<◌, ◌≤◌, ◌+◌, ℕ,
 ghost use Rattle.p8_tree.specs.Expressions.{Tree};
 ghost use Rattle.p8_tree.specs.Views.{tree_of, datum_of, instruction_of, contents_of};
 ghost use Rattle.p8_tree.specs.Sources.{Instr};
-ghost use Rattle.p8_kinds.specs.ConstantEntries.{setting_of};
+ghost use Rattle.p8_fold.specs.ConstantEntries.{setting_of};
 ghost use Rattle.p8_constants.specs.Standing.{item_of, items_of, IsFirstOf};
 ghost use Rattle.p8_kinds.specs.declared.scope.Scope.{Scope as declared_scope};
 ghost use Rattle.p8_kinds.specs.Environments.{environment_of};
@@ -146,7 +146,8 @@ fn enter_labels(kinds: &mut Kinds, number: u32, items: &[Item<'_>]) -> Result<()
 // Enters the local labels of what stands after a label at the next number.
 fn begin_region(scope: &mut Scope, behind: &[Item<'_>]) -> Result<(), NoMemory>
     requires { (m : ℕ) (n : List ℕ) → scope.old.number < m → own scope.old.kinds m n ≡ None }
-    ensures { OnOk result ((initial : declared_scope) (first : ℕ) (region : List (List ℕ)) → IsInRegion initial scope.old first region → IsInRegion initial scope.new first (labels_ahead (items_of behind.now))) }
+    ensures { OnOk result ((initial : declared_scope) (first : ℕ) (region : List (List ℕ)) → IsInRegion initial scope.old first region →
+        IsInRegion initial scope.new first (labels_ahead (items_of behind.now))) }
 {
     let number = one_more(scope.number)?;
     enter_labels(&mut scope.kinds, number, behind)?;
@@ -157,7 +158,8 @@ fn begin_region(scope: &mut Scope, behind: &[Item<'_>]) -> Result<(), NoMemory>
 // Comes to a line: one with a label that isn't local sees the local labels after it.
 fn come_to(scope: &mut Scope, label: Option<&Text>, behind: &[Item<'_>]) -> Result<(), NoMemory>
     requires { (m : ℕ) (n : List ℕ) → scope.old.number < m → own scope.old.kinds m n ≡ None }
-    ensures { OnOk result ((initial : declared_scope) (first : ℕ) (region : List (List ℕ)) → IsInRegion initial scope.old first region → IsInRegion initial scope.new first (labels_at region (option_map (λ n. n.now) label.entry) (items_of behind.now))) }
+    ensures { OnOk result ((initial : declared_scope) (first : ℕ) (region : List (List ℕ)) → IsInRegion initial scope.old first region →
+        IsInRegion initial scope.new first (labels_at region (option_map (λ n. n.now) label.entry) (items_of behind.now))) }
 {
     if is_end(label) {
         begin_region(scope, behind)
@@ -186,7 +188,9 @@ pub(crate) fn first_unknown_in_lines(
 ) -> Result<Option<Fault>, NoMemory>
     requires own { 0 < number }
     requires free { (m : ℕ) (n : List ℕ) → number ≤ m → own scope.old.kinds m n ≡ None }
-    ensures fault { IfOk result (λ first. IsFirstOf first (UnknownInLines (environment_at scope.old.kinds scope.old.publics (setting_of scope.old.consts)) (labels_ahead (items_of items.now)) (items_of items.now))) }
+    ensures fault { IfOk result (λ first. IsFirstOf first
+        (UnknownInLines (environment_at scope.old.kinds scope.old.publics (setting_of scope.old.consts)) (labels_ahead (items_of items.now))
+        (items_of items.now))) }
     ensures kinds { IfOk result (λ _. (m : ℕ) (n : List ℕ) → m < number → own scope.new.kinds m n ≡ own scope.old.kinds m n) }
     ensures consts { IfOk result (λ _. scope.new.consts ≡ scope.old.consts) }
     ensures publics { IfOk result (λ _. scope.new.publics ≡ scope.old.publics) }

@@ -2,19 +2,20 @@
 ghost use Rattle.std.specs.Prelude.{◌≡◌, ℕ, ◌<◌, List, ◌∷◌, Some, None, All, IfOk, OnOk, option_map};
 ghost use Rattle.p8_tree.specs.Proper.{IsSize};
 ghost use Rattle.p8_tree.specs.Views.{child_of, method_of};
-ghost use Rattle.p8_kinds.specs.ConstantEntries.{setting_of};
+ghost use Rattle.p8_fold.specs.ConstantEntries.{setting_of};
 ghost use Rattle.p8_constants.specs.FileItems.{Item as item_tree, object as object_tree, method as method_tree};
 ghost use Rattle.p8_constants.specs.Names.{predefined as table};
 ghost use Rattle.p8_constants.specs.Standing.{item_of, items_of, valued};
 ghost use Rattle.p8_kinds.specs.Kinds.{own};
 ghost use Rattle.p8_names.specs.Kinds.{value_in, offset_in, item_kind, label_size, file_kind};
 ghost use Rattle.p8_names.specs.Counting.{IsNext, HasSize, IsEntered, AreEntered};
-ghost use Rattle.p8_kinds.specs.declared.consts.Consts.{Consts as declared_consts};
+ghost use Rattle.p8_fold.specs.declared.consts.Consts.{Consts as declared_consts};
 
 use crate::labels::label_sizes;
 use crate::next_kinds::{Next, first_next, go_behind, instances_of};
 use p8_constants::{Item, NamedConstant};
-use p8_kinds::{Consts, Kinds, Meaning, NameKind};
+use p8_fold::{Consts, Meaning};
+use p8_kinds::{Kinds, NameKind};
 use p8_tree::{Method, ObjItem, Text};
 use p8_words::NoMemory;
 use std::alloc::Global;
@@ -45,7 +46,8 @@ fn value_of_name(consts: &Consts, name: &Text) -> u32
 // Where a variable stands.
 fn offset_of(next: &Next, size: u8) -> u32
     requires { IsSize size }
-    ensures { (consts : declared_consts) (all before : List item_tree) → IsNext (setting_of consts) all before next.now → result ≡ offset_in (setting_of consts) all before size }
+    ensures { (consts : declared_consts) (all before : List item_tree) → IsNext (setting_of consts) all before next.now →
+        result ≡ offset_in (setting_of consts) all before size }
 {
     match size {
         1 => next.byte,
@@ -55,7 +57,8 @@ fn offset_of(next: &Next, size: u8) -> u32
 }
 
 fn object_kind(next: &Next, consts: &Consts, object: &ObjItem) -> NameKind
-    ensures { (all before behind : List item_tree) → IsNext (setting_of consts.now) all before next.now → result ≡ item_kind (setting_of consts.now) all before (object_tree (child_of object.now)) behind }
+    ensures { (all before behind : List item_tree) → IsNext (setting_of consts.now) all before next.now →
+        result ≡ item_kind (setting_of consts.now) all before (object_tree (child_of object.now)) behind }
 {
     NameKind::Object {
         item: next.item,
@@ -65,7 +68,8 @@ fn object_kind(next: &Next, consts: &Consts, object: &ObjItem) -> NameKind
 }
 
 fn method_kind(next: &Next, consts: &Consts, method: &Method) -> NameKind
-    ensures { (all before behind : List item_tree) → IsNext (setting_of consts.now) all before next.now → result ≡ item_kind (setting_of consts.now) all before (method_tree (method_of method.now)) behind }
+    ensures { (all before behind : List item_tree) → IsNext (setting_of consts.now) all before next.now →
+        result ≡ item_kind (setting_of consts.now) all before (method_tree (method_of method.now)) behind }
 {
     NameKind::Method {
         number: if method.public {
@@ -80,7 +84,8 @@ fn method_kind(next: &Next, consts: &Consts, method: &Method) -> NameKind
 // The kind of what an item defines.
 fn item_kind(next: &Next, consts: &Consts, item: Item<'_>, label: u8) -> NameKind
     requires { HasSize (item_of item) }
-    ensures { (all before behind : List item_tree) → IsNext (setting_of consts.now) all before next.now → label ≡ label_size (item_of item.entry ∷ behind) → result ≡ item_kind (setting_of consts.now) all before (item_of item.entry) behind }
+    ensures { (all before behind : List item_tree) → IsNext (setting_of consts.now) all before next.now →
+        label ≡ label_size (item_of item.entry ∷ behind) → result ≡ item_kind (setting_of consts.now) all before (item_of item.entry) behind }
 {
     match item {
         Item::Constant(item) => NameKind::Const(value_in(consts, &item.name)),

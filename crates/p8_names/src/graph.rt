@@ -3,7 +3,7 @@ ghost use Rattle.std.specs.Prelude.{◌≡◌, ◌++◌, OnOk, IfOk};
 ghost use Rattle.std.specs.Option.{option_to_list};
 ghost use Rattle.std.specs.List.{filter_map};
 ghost use Rattle.p8_tree.specs.Views.{named_sources_of, source_of};
-ghost use Rattle.p8_kinds.specs.ConstantEntries.{at_bytes};
+ghost use Rattle.p8_fold.specs.ConstantEntries.{at_bytes};
 ghost use Rattle.p8_constants.specs.Standing.{item_of};
 ghost use Rattle.p8_names.specs.Kinds.{object_in};
 ghost use Rattle.p8_names.specs.Mentions.{mentions, HaveMentioned};

@@ -1,6 +1,6 @@
 // What is wrong with the items of a file, but for the uses of names.
 ghost use Rattle.std.specs.Prelude.{◌≡◌, IfOk};
-ghost use Rattle.p8_kinds.specs.ConstantEntries.{setting_of};
+ghost use Rattle.p8_fold.specs.ConstantEntries.{setting_of};
 ghost use Rattle.p8_constants.specs.Names.{predefined as table};
 ghost use Rattle.p8_constants.specs.Standing.{items_of, valued, IsFirstOf};
 ghost use Rattle.p8_names.specs.Resolving.{RepeatInFile, BrokenByItems};
@@ -9,7 +9,7 @@ use p8_constants::{
     Item, NamedConstant, file_names, first_count_fault, first_instance_fault, first_label_repeat,
     first_own_repeat, first_params_fault, lacks_pub,
 };
-use p8_kinds::Consts;
+use p8_fold::Consts;
 use p8_tree::{Fault, first_of_two};
 use std::alloc::{AllocError, Global};
 

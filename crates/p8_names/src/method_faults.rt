@@ -3,7 +3,7 @@ ghost use Rattle.std.specs.Prelude.{◌≡◌, ◌⊎◌, ◌<◌, ℕ, List, No
 ghost use Rattle.p8_kinds.specs.Kinds.{own};
 ghost use Rattle.p8_names.specs.Looking.{IsShown, IsFaultIn, HasOwnKinds};
 ghost use Rattle.p8_tree.specs.Views.{declared_of, method_of};
-ghost use Rattle.p8_kinds.specs.ConstantEntries.{setting_of};
+ghost use Rattle.p8_fold.specs.ConstantEntries.{setting_of};
 ghost use Rattle.p8_constants.specs.Rules.{FaultInCount};
 ghost use Rattle.p8_constants.specs.Standing.{IsFirstOf};
 ghost use Rattle.p8_kinds.specs.Environments.{environment_of};
@@ -13,7 +13,8 @@ ghost use Rattle.p8_names.specs.Faults.{FaultInLocals};
 use crate::hiding::{hide, restore};
 use crate::own_kinds::enter_own_names;
 use p8_constants::{count_fault, own_names};
-use p8_kinds::{Consts, Scope, first_misuse};
+use p8_fold::Consts;
+use p8_kinds::{Scope, first_misuse};
 use p8_tree::{Fault, Method, VarItem, first_of_two};
 use p8_words::NoMemory;
 use std::alloc::Global;
@@ -38,7 +39,8 @@ fn first_local_fault(consts: &Consts, locals: &[VarItem]) -> Option<Fault>
 
 /// The first fault of the counts of a method's locals and of its body, by what is known of names there.
 pub(crate) fn method_fault(scope: &Scope, method: &Method) -> Option<Fault>
-    ensures { IsFirstOf result (λ f. FaultInLocals (environment_of scope.now).constants (method_of method.now).locals f ⊎ MisuseInStatements (environment_of scope.now) (method_of method.now).body f) }
+    ensures { IsFirstOf result (λ f. FaultInLocals (environment_of scope.now).constants (method_of method.now).locals f ⊎
+        MisuseInStatements (environment_of scope.now) (method_of method.now).body f) }
 {
     let local = first_local_fault(&scope.consts, method.locals.as_slice());
     first_of_two(local, first_misuse(scope, method.body.as_slice()))

@@ -1,7 +1,7 @@
 // All methods of a file, looked at one after the other.
 ghost use Rattle.std.specs.Prelude.{◌≡◌, ◌+◌, ◌<◌, ℕ, List, None, IfOk, length, map};
 ghost use Rattle.p8_tree.specs.Views.{method_of};
-ghost use Rattle.p8_kinds.specs.ConstantEntries.{setting_of};
+ghost use Rattle.p8_fold.specs.ConstantEntries.{setting_of};
 ghost use Rattle.p8_constants.specs.Standing.{IsFirstOf};
 ghost use Rattle.p8_kinds.specs.Kinds.{own};
 ghost use Rattle.p8_names.specs.Faults.{InMethods};
@@ -33,8 +33,10 @@ pub(crate) fn look_at_all(
 ) -> Result<Option<Fault>, NoMemory>
     requires shown { IsShown scope.old.kinds (setting_of scope.old.consts) }
     requires free { (m : ℕ) (n : List ℕ) → 0 < m → own scope.old.kinds m n ≡ None }
-    ensures fault { IfOk result (λ first. IsFirstOf first (InMethods (IsFaultIn scope.old.kinds scope.old.publics (setting_of scope.old.consts)) (map (λ m. method_of m.now) methods.now))) }
-    ensures kinds { IfOk result (λ _. HasMethods scope.old.kinds scope.new.kinds (setting_of scope.old.consts) (map (λ m. method_of m.now) methods.now) (length methods.now)) }
+    ensures fault { IfOk result (λ first. IsFirstOf first
+        (InMethods (IsFaultIn scope.old.kinds scope.old.publics (setting_of scope.old.consts)) (map (λ m. method_of m.now) methods.now))) }
+    ensures kinds { IfOk result (λ _. HasMethods scope.old.kinds scope.new.kinds (setting_of scope.old.consts)
+        (map (λ m. method_of m.now) methods.now) (length methods.now)) }
     ensures consts { IfOk result (λ _. setting_of scope.new.consts ≡ setting_of scope.old.consts) }
     ensures publics { IfOk result (λ _. scope.new.publics ≡ scope.old.publics) }
 {

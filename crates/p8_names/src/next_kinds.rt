@@ -2,7 +2,7 @@
 ghost use Rattle.std.specs.Prelude.{◌≡◌, ℕ, ◌<◌, ◌≤◌, ◌*◌, ◌+◌, ◌^◌, min, nat_lt, if◌then◌else◌, length, List, [], ◌∷◌, ◌++◌, All, IfOk, OnOk, option_map};
 ghost use Rattle.p8_tree.specs.Proper.{IsSize};
 ghost use Rattle.p8_tree.specs.Views.{tree_of, declared_of, child_of, method_of};
-ghost use Rattle.p8_kinds.specs.ConstantEntries.{setting_of};
+ghost use Rattle.p8_fold.specs.ConstantEntries.{setting_of};
 ghost use Rattle.p8_constants.specs.FileItems.{Item as item_tree, variable, object as object_tree, method as method_tree};
 ghost use Rattle.p8_constants.specs.Rules.{count_in};
 ghost use Rattle.p8_constants.specs.Standing.{item_of, items_of};
@@ -10,7 +10,8 @@ ghost use Rattle.p8_names.specs.Kinds.{greatest_offset, greatest_number, bytes_i
 ghost use Rattle.p8_names.specs.Counting.{IsNext, HasSize, HasNoPart};
 
 use p8_constants::{Item, count_value};
-use p8_kinds::{Consts, Meaning, NameKind};
+use p8_fold::{Consts, Meaning};
+use p8_kinds::NameKind;
 use p8_tree::{Expr, Method, ObjItem, Text, VarItem};
 use p8_words::NoMemory;
 
@@ -122,7 +123,8 @@ fn counted(number: u8, so: bool) -> u8
 // After a variable.
 fn behind_variable(next: &mut Next, consts: &Consts, item: &VarItem)
     requires { IsSize item.now.size }
-    ensures { (all before : List item_tree) → IsNext (setting_of consts.now) all before next.old → IsNext (setting_of consts.now) all (before ++ variable (declared_of item.now) ∷ []) next.new }
+    ensures { (all before : List item_tree) → IsNext (setting_of consts.now) all before next.old →
+        IsNext (setting_of consts.now) all (before ++ variable (declared_of item.now) ∷ []) next.new }
 {
     let bytes = bytes_of(consts, item);
     next.long = advanced(next.long, bytes_where(item.size == 4, bytes));
@@ -132,7 +134,8 @@ fn behind_variable(next: &mut Next, consts: &Consts, item: &VarItem)
 
 // After a method.
 fn behind_method(next: &mut Next, consts: &Consts, method: &Method)
-    ensures { (all before : List item_tree) → IsNext (setting_of consts.now) all before next.old → IsNext (setting_of consts.now) all (before ++ method_tree (method_of method.now) ∷ []) next.new }
+    ensures { (all before : List item_tree) → IsNext (setting_of consts.now) all before next.old →
+        IsNext (setting_of consts.now) all (before ++ method_tree (method_of method.now) ∷ []) next.new }
 {
     next.public = counted(next.public, method.public);
     next.private = counted(next.private, !method.public);
@@ -161,7 +164,8 @@ pub(crate) fn one_more(item: u32) -> Result<u32, NoMemory>
 
 // After an object.
 fn behind_object(next: &mut Next, consts: &Consts, object: &ObjItem) -> Result<(), NoMemory>
-    ensures { OnOk result ((all before : List item_tree) → IsNext (setting_of consts.now) all before next.old → IsNext (setting_of consts.now) all (before ++ object_tree (child_of object.now) ∷ []) next.new) }
+    ensures { OnOk result ((all before : List item_tree) → IsNext (setting_of consts.now) all before next.old →
+        IsNext (setting_of consts.now) all (before ++ object_tree (child_of object.now) ∷ []) next.new) }
 {
     next.position = behind_instances(next.position, instances_of(consts, object));
     next.item = one_more(next.item)?;
@@ -171,13 +175,15 @@ fn behind_object(next: &mut Next, consts: &Consts, object: &ObjItem) -> Result<(
 // After any other item.
 fn behind_nothing(next: &Next, consts: &Consts, item: Item<'_>)
     requires { HasNoPart (item_of item) }
-    ensures { (all before : List item_tree) → IsNext (setting_of consts.now) all before next.now → IsNext (setting_of consts.now) all (before ++ item_of item.entry ∷ []) next.now }
+    ensures { (all before : List item_tree) → IsNext (setting_of consts.now) all before next.now →
+        IsNext (setting_of consts.now) all (before ++ item_of item.entry ∷ []) next.now }
 {}
 
 // After an item.
 pub(crate) fn go_behind(next: &mut Next, consts: &Consts, item: Item<'_>) -> Result<(), NoMemory>
     requires { HasSize (item_of item) }
-    ensures { OnOk result ((all before : List item_tree) → IsNext (setting_of consts.now) all before next.old → IsNext (setting_of consts.now) all (before ++ item_of item.entry ∷ []) next.new) }
+    ensures { OnOk result ((all before : List item_tree) → IsNext (setting_of consts.now) all before next.old →
+        IsNext (setting_of consts.now) all (before ++ item_of item.entry ∷ []) next.new) }
 {
     match item {
         Item::Variable(item) => {

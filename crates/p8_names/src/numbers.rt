@@ -1,7 +1,7 @@
 // The files of a project by their names.
 ghost use Rattle.std.specs.Prelude.{◌≡◌, ℕ, List, Some, OnOk, IfOk, length};
 ghost use Rattle.p8_tree.specs.Views.{named_sources_of};
-ghost use Rattle.p8_kinds.specs.ConstantEntries.{at_bytes};
+ghost use Rattle.p8_fold.specs.ConstantEntries.{at_bytes};
 ghost use Rattle.p8_names.specs.Finding.{HasNumbers};
 
 use p8_tree::{Project, Text};

@@ -2,16 +2,17 @@
 ghost use Rattle.std.specs.Prelude.{◌≡◌, ℕ, List, [], ◌∷◌, ◌++◌, map, Some, None, OnOk, IfOk, option_map};
 ghost use Rattle.std.specs.Map.{lookup};
 ghost use Rattle.std.specs.Str.{bytes_eq};
-ghost use Rattle.p8_kinds.specs.ConstantEntries.{setting_of};
+ghost use Rattle.p8_fold.specs.ConstantEntries.{setting_of};
 ghost use Rattle.p8_constants.specs.Names.{name_of, predefined as table};
 ghost use Rattle.p8_constants.specs.Standing.{item_of, items_of, valued};
 ghost use Rattle.p8_names.specs.Settings.{definition, meaning_of_item, meaning_outside, children_behind, object_with, constant_behind, outside_of};
 ghost use Rattle.p8_names.specs.Changes.{IsPut, HasNames, over, HasConstants, HasConstantsOf, HasObjects, IsSameOutside, IsOutside};
 ghost use Rattle.p8_kinds.specs.declared.children.Child.{Child as declared_child};
-ghost use Rattle.p8_kinds.specs.declared.meanings.Meaning.TheVariants.{Value};
+ghost use Rattle.p8_fold.specs.declared.meanings.Meaning.TheVariants.{Value};
 
 use p8_constants::{Item, NameSet, NamedConstant};
-use p8_kinds::{Child, ChildConst, Consts, Meaning};
+use p8_fold::{Consts, Meaning};
+use p8_kinds::{Child, ChildConst};
 use p8_tree::Text;
 use p8_words::NoMemory;
 use std::alloc::Global;
@@ -66,7 +67,8 @@ fn put_items(consts: &mut Consts, items: &[Item<'_>]) -> Result<(), NoMemory>
 
 // Puts the constants that the language defines over all else.
 fn put_predefined(consts: &mut Consts, constants: &[NamedConstant]) -> Result<(), NoMemory>
-    ensures { OnOk result (HasNames (setting_of consts.old) (setting_of consts.new) (λ n. over (lookup (bytes_eq n) (valued constants.now)) ((setting_of consts.old).name n))) }
+    ensures { OnOk result (HasNames (setting_of consts.old) (setting_of consts.new)
+        (λ n. over (lookup (bytes_eq n) (valued constants.now)) ((setting_of consts.old).name n))) }
 {
     for at in (0..constants.len()).rev() {
         let constant = &constants[at];
@@ -81,7 +83,8 @@ fn put_constants(
     owner: &Text,
     constants: &[ChildConst],
 ) -> Result<(), NoMemory>
-    ensures { OnOk result (HasConstants (setting_of consts.old) (setting_of consts.new) owner.now (λ n. lookup (bytes_eq n) (map (λ x. (x.name, x.value)) constants.now))) }
+    ensures { OnOk result (HasConstants (setting_of consts.old) (setting_of consts.new) owner.now
+        (λ n. lookup (bytes_eq n) (map (λ x. (x.name, x.value)) constants.now))) }
 {
     for at in (0..constants.len()).rev() {
         let constant = &constants[at];
@@ -97,7 +100,8 @@ fn put_unless_seen(
     owner: &Text,
     child: &Child,
 ) -> Result<(), NoMemory>
-    ensures constants { OnOk result ((done : List (List ℕ × declared_child)) → HasObjects (setting_of consts.old) seen.now done → HasConstantsOf (setting_of consts.new) (done ++ (owner.now, child.now) ∷ [])) }
+    ensures constants { OnOk result ((done : List (List ℕ × declared_child)) → HasObjects (setting_of consts.old) seen.now done →
+        HasConstantsOf (setting_of consts.new) (done ++ (owner.now, child.now) ∷ [])) }
     ensures same { OnOk result (IsSameOutside (setting_of consts.old) (setting_of consts.new)) }
 {
     if seen.has(owner.as_slice()) {
@@ -114,7 +118,8 @@ fn put_object(
     owner: &Text,
     child: &Child,
 ) -> Result<(), NoMemory>
-    ensures objects { OnOk result ((done : List (List ℕ × declared_child)) → HasObjects (setting_of consts.old) seen.old done → HasObjects (setting_of consts.new) seen.new (done ++ (owner.now, child.now) ∷ [])) }
+    ensures objects { OnOk result ((done : List (List ℕ × declared_child)) → HasObjects (setting_of consts.old) seen.old done →
+        HasObjects (setting_of consts.new) seen.new (done ++ (owner.now, child.now) ∷ [])) }
     ensures same { OnOk result (IsSameOutside (setting_of consts.old) (setting_of consts.new)) }
 {
     put_unless_seen(consts, seen, owner, child)?;
@@ -130,7 +135,8 @@ fn put_next<'a>(
     left: &'a [Child],
 ) -> Result<&'a [Child], NoMemory>
     ensures rest { IfOk result (λ rest. rest.now ≡ children_behind (item_of item.entry) left.now) }
-    ensures objects { IfOk result (λ _. (done : List (List ℕ × declared_child)) → HasObjects (setting_of consts.old) seen.old done → HasObjects (setting_of consts.new) seen.new (done ++ object_with (item_of item.entry) left.now)) }
+    ensures objects { IfOk result (λ _. (done : List (List ℕ × declared_child)) → HasObjects (setting_of consts.old) seen.old done →
+        HasObjects (setting_of consts.new) seen.new (done ++ object_with (item_of item.entry) left.now)) }
     ensures same { IfOk result (λ _. IsSameOutside (setting_of consts.old) (setting_of consts.new)) }
 {
     match item {
@@ -153,7 +159,8 @@ fn put_objects(
     children: &[Child],
 ) -> Result<(), NoMemory>
     requires { (owner n : List ℕ) → (setting_of consts.old).constant owner n ≡ None }
-    ensures constants { OnOk result ((owner n : List ℕ) → (setting_of consts.new).constant owner n ≡ option_map Value (constant_behind (items_of items.now) children.now owner n)) }
+    ensures constants { OnOk result ((owner n : List ℕ) →
+        (setting_of consts.new).constant owner n ≡ option_map Value (constant_behind (items_of items.now) children.now owner n)) }
     ensures same { OnOk result (IsSameOutside (setting_of consts.old) (setting_of consts.new)) }
 {
     let mut seen = NameSet::new(alloc);

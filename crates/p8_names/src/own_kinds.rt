@@ -1,15 +1,17 @@
 // The methods of a file in the order of their numbers, and the kinds of their own names.
 ghost use Rattle.std.specs.Prelude.{◌≡◌, ℕ, ◌*◌, ◌+◌, min, map, ◌++◌, ◌∷◌, [], if◌then◌else◌, IfOk, OnOk};
 ghost use Rattle.p8_tree.specs.Views.{declared_of, method_of};
-ghost use Rattle.p8_kinds.specs.ConstantEntries.{setting_of};
+ghost use Rattle.p8_fold.specs.ConstantEntries.{setting_of};
 ghost use Rattle.p8_constants.specs.Rules.{count_in};
 ghost use Rattle.p8_constants.specs.Standing.{item_of, items_of};
-ghost use Rattle.p8_names.specs.Kinds.{greatest_offset, public_in, private_in, publics, privates, numbered, param_kinds, result_kind, local_kinds, behind_longs, frame_kinds};
+ghost use Rattle.p8_names.specs.Kinds.{greatest_offset, public_in, private_in, publics, privates, numbered, param_kinds, result_kind, local_kinds};
+ghost use Rattle.p8_names.specs.Kinds.{behind_longs, frame_kinds};
 ghost use Rattle.p8_names.specs.Counting.{IsEnteredAt, AreEnteredAt};
 
 use crate::next_kinds::advanced;
 use p8_constants::{Item, count_value};
-use p8_kinds::{Consts, Kinds, NameKind};
+use p8_fold::Consts;
+use p8_kinds::{Kinds, NameKind};
 use p8_tree::{Method, Text, VarItem};
 use p8_words::NoMemory;
 use std::alloc::{AllocError, Global};
@@ -69,7 +71,8 @@ fn put_where<'a>(
     method: &'a Method,
     methods: &mut Vec<&'a Method>,
 ) -> Result<(), AllocError>
-    ensures { OnOk result (map (λ m. method_of m.now) methods.new.items ≡ map (λ m. method_of m.now) methods.old.items ++ (if so then method_of method.now ∷ [] else [])) }
+    ensures { OnOk result (map (λ m. method_of m.now) methods.new.items ≡
+        map (λ m. method_of m.now) methods.old.items ++ (if so then method_of method.now ∷ [] else [])) }
 {
     if so {
         methods.push(method)?;
@@ -121,7 +124,8 @@ fn enter_locals(
     first: u32,
     locals: &[VarItem],
 ) -> Result<(), NoMemory>
-    ensures { OnOk result ((longs : ℕ) → first ≡ min (4 * longs) greatest_offset → AreEnteredAt kinds.old kinds.new number (local_kinds (setting_of consts.now) longs (map declared_of locals.now))) }
+    ensures { OnOk result ((longs : ℕ) → first ≡ min (4 * longs) greatest_offset →
+        AreEnteredAt kinds.old kinds.new number (local_kinds (setting_of consts.now) longs (map declared_of locals.now))) }
 {
     let mut offset = first;
     for local in locals {

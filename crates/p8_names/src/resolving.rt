@@ -5,7 +5,7 @@ ghost use Rattle.p8_tree.specs.Sources.{Source};
 ghost use Rattle.p8_tree.specs.Views.{source_of};
 ghost use Rattle.p8_tree.specs.declared.faults.Fault.{Fault};
 ghost use Rattle.p8_tree.specs.Faults.{IsFirstFault, IfRefused};
-ghost use Rattle.p8_kinds.specs.ConstantEntries.{setting_of};
+ghost use Rattle.p8_fold.specs.ConstantEntries.{setting_of};
 ghost use Rattle.p8_constants.specs.Names.{predefined as table};
 ghost use Rattle.p8_constants.specs.Standing.{items_of, valued, IsFirstOf};
 ghost use Rattle.p8_kinds.specs.declared.children.Children.{Children};
@@ -62,8 +62,10 @@ fn first_broken_rule(
     requires table { valued begun.old.predefined.items ≡ table }
     requires shown { IsShown begun.old.scope.kinds (setting_of begun.old.scope.consts) }
     requires free { (m : ℕ) (n : List ℕ) → 0 < m → own begun.old.scope.kinds m n ≡ None }
-    ensures fault { IfOk result (λ first. IsFirstOf first (BrokenBy begun.old.scope.kinds begun.old.scope.publics (setting_of begun.old.scope.consts) (items_of begun.old.items.items) top)) }
-    ensures kinds { IfOk result (λ _. HasAllMethods begun.old.scope.kinds begun.new.scope.kinds (setting_of begun.old.scope.consts) (numbered_methods (items_of begun.old.items.items))) }
+    ensures fault { IfOk result (λ first. IsFirstOf first
+        (BrokenBy begun.old.scope.kinds begun.old.scope.publics (setting_of begun.old.scope.consts) (items_of begun.old.items.items) top)) }
+    ensures kinds { IfOk result (λ _. HasAllMethods begun.old.scope.kinds begun.new.scope.kinds (setting_of begun.old.scope.consts)
+        (numbered_methods (items_of begun.old.items.items))) }
     ensures constants { IfOk result (λ _. begun.new.fault ≡ begun.old.fault) }
 {
     let repeat = first_repeat(alloc, &begun.items, &begun.predefined)?;

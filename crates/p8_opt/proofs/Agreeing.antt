@@ -4,7 +4,7 @@ use Rattle.p8_tree.specs.declared.places.Place.{Place}
 use Rattle.p8_tree.specs.Sources.{MethodTree}
 use Rattle.p8_tree.specs.Projects.{NamedSource}
 use Rattle.p8_constants.specs.FileItems.{items}
-use Rattle.p8_kinds.specs.Values.{value}
+use Rattle.p8_fold.specs.Values.{value}
 use Rattle.p8_kinds.specs.declared.children.Children.{Children}
 use Rattle.p8_names.specs.Kinds.{numbered}
 use Rattle.p8_image.specs.declared.clocks.Clock.{Clock}

@@ -1,8 +1,8 @@
 -- Settings that give each expression the same value.
 use Rattle.std.proofs.Common.{◌≡◌, ℕ, ◌==◌, if◌then◌else◌, None, List, refl, ap, ◌∙◌}
 use Rattle.p8_tree.specs.Expressions.{Tree, node, Form, Number, Str, Strings, Here, Var, Call, Unary, Binary, Assign, Change, Address, ObjectAddress, ObjConst, Built, Look, Variable, Named, Part, Memory, Register, no_index, index, whole, bits, Trees, no_trees, ◌▷◌}
-use Rattle.p8_kinds.specs.Meanings.{Setting, meaning_of, value_of_meaning, address_of_meaning, given}
-use Rattle.p8_kinds.specs.Values.{constant_of, before, between, value, value_of_form, value_of_variable, value_of_register, address_of, value_of_one}
+use Rattle.p8_fold.specs.Meanings.{Setting, meaning_of, value_of_meaning, address_of_meaning, given}
+use Rattle.p8_fold.specs.Values.{constant_of, before, between, value, value_of_form, value_of_variable, value_of_register, address_of, value_of_one}
 
 pub record Alike (s t : Setting) : Type 0 where
   pub names : (n : List ℕ) → given value_of_meaning (meaning_of s n) ≡ given value_of_meaning (meaning_of t n)

@@ -5,10 +5,10 @@ use Rattle.p8_tree.specs.Names.{result_word}
 use Rattle.p8_tree.specs.Expressions.{Tree, node, Form, Number, Str, Strings, Here, Var, Call, Unary, Binary, Assign, Change, Address, ObjectAddress, ObjConst, Built, Look, Variable, Named, Part, Memory, Register, no_index, index, whole, bits, Trees, no_trees, ◌▷◌}
 use Rattle.p8_tree.specs.Proper.{IsProperTree, IsProperForm, AreProperTrees}
 use Rattle.p8_words.specs.Operators.{or_zero, divides, unary_result, binary_result}
-use Rattle.p8_kinds.specs.declared.meanings.Meaning.{Meaning}
-use Rattle.p8_kinds.specs.declared.meanings.Meaning.TheVariants as meaning_case
-use Rattle.p8_kinds.specs.Meanings.{Setting, meaning_of, value_of_meaning, address_of_meaning, given}
-use Rattle.p8_kinds.specs.Values.{constant_of, before, between, value, value_of_form, value_of_variable, address_of, value_of_one}
+use Rattle.p8_fold.specs.declared.meanings.Meaning.{Meaning}
+use Rattle.p8_fold.specs.declared.meanings.Meaning.TheVariants as meaning_case
+use Rattle.p8_fold.specs.Meanings.{Setting, meaning_of, value_of_meaning, address_of_meaning, given}
+use Rattle.p8_fold.specs.Values.{constant_of, before, between, value, value_of_form, value_of_variable, address_of, value_of_one}
 use Rattle.p8_names.specs.Words.{IsWord, HasWords}
 use Rattle.p8_names.proofs.Bounds.{unary-word, binary-word}
 

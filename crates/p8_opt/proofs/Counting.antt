@@ -14,7 +14,7 @@ use Rattle.p8_tree.specs.Projects.{NamedSource}
 use Rattle.p8_tree.specs.declared.faults.Fault.{Fault}
 use Rattle.p8_tree.specs.Faults.{fault}
 use Rattle.p8_tree.specs.declared.refusal.Refusal.TheVariants.{TooManyMethods, TooManyObjects}
-use Rattle.p8_kinds.specs.Meanings.{Setting}
+use Rattle.p8_fold.specs.Meanings.{Setting}
 use Rattle.p8_constants.specs.Constants.{counted}
 use Rattle.p8_constants.specs.FileItems.{Item, constant, variable, object, method, line, items}
 use Rattle.p8_constants.specs.Rules.{count_in, WrongInstancesIn, passes_limit, has_no_instance}

@@ -5,7 +5,7 @@ use Rattle.p8_tree.specs.Expressions.{Tree, node, Form, Number, Str, Strings, He
 use Rattle.p8_kinds.specs.declared.name_kinds.NameKind.{NameKind}
 use Rattle.p8_kinds.specs.declared.name_kinds.NameKind.TheVariants as kinds
 use Rattle.p8_words.specs.Operators.{or_zero}
-use Rattle.p8_kinds.specs.Values as constants
+use Rattle.p8_fold.specs.Values as constants
 use Rattle.p8_gen.specs.Names.{Names, all_wide}
 use Rattle.p8_gen.specs.Pieces.{Written, ◌⨾◌}
 use Rattle.p8_gen.specs.Variables.{number, Home, Operation, Using, leaving, effect_for}

@@ -13,8 +13,8 @@ use Rattle.p8_kinds.specs.declared.children.Children.{Children}
 use Rattle.p8_names.specs.Kinds as names
 use Rattle.p8_names.specs.Kinds.{public_in, private_in, publics, privates}
 use Rattle.p8_meaning.specs.Programs.{File, Program, setting_of, object_constant, public_method, private_method, methods_of}
-use Rattle.p8_kinds.specs.Meanings.{outside_operands}
-use Rattle.p8_kinds.specs.declared.meanings.Meaning.TheVariants as meaning_case
+use Rattle.p8_fold.specs.Meanings.{outside_operands}
+use Rattle.p8_fold.specs.declared.meanings.Meaning.TheVariants as meaning_case
 use Rattle.p8_kinds.specs.declared.name_kinds.NameKind.{NameKind}
 use Rattle.p8_kinds.specs.declared.name_kinds.NameKind.TheVariants as kind
 use Rattle.p8_kinds.specs.FileSettings.{meaning_of_kind}

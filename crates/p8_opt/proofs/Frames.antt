@@ -15,8 +15,8 @@ use Rattle.p8_tree.specs.declared.refusal.Refusal.TheVariants.{FrameTooLarge}
 use Rattle.p8_bytecode.specs.Reading.{bare}
 use Rattle.p8_bytecode.specs.Spelling.{spelled}
 use Rattle.p8_bytecode.specs.Table.{rows}
-use Rattle.p8_kinds.specs.declared.meanings.Meaning.TheVariants as meaning_case
-use Rattle.p8_kinds.specs.Meanings.{Setting}
+use Rattle.p8_fold.specs.declared.meanings.Meaning.TheVariants as meaning_case
+use Rattle.p8_fold.specs.Meanings.{Setting}
 use Rattle.p8_constants.specs.FileItems.{items}
 use Rattle.p8_kinds.specs.declared.children.Child.{Child}
 use Rattle.p8_kinds.specs.declared.children.ChildConst.{ChildConst}

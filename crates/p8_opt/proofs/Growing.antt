@@ -6,7 +6,7 @@ use Rattle.p8_tree.specs.Expressions.{Tree, node, Form, Number, Str, Strings, He
 use Rattle.p8_tree.specs.Statements.{Forever, Count, Before, After, From, Statement, statement, Action, Do, If, Case, Repeat, Next, Quit, Return, Abort, arm, Otherwise, nothing_else, otherwise, Statements, no_statements, ◌▹◌, Arms, no_arms, ◌⊳◌}
 use Rattle.p8_bytecode.specs.declared.op.Op.{Op}
 use Rattle.p8_words.specs.Operators.{or_zero}
-use Rattle.p8_kinds.specs.Values as constants
+use Rattle.p8_fold.specs.Values as constants
 use Rattle.p8_gen.specs.Names.{Names}
 use Rattle.p8_gen.specs.Pieces.{Written, Piece, nothing, one, ◌⨾◌, from_start, up_to_end, up_to_jumps, byte, text, jump, jumping, of_statement}
 use Rattle.p8_gen.specs.Variables.{Home, Operation, plain_op, home_of, Pop, assigned}

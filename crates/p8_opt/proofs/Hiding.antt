@@ -5,8 +5,8 @@ use Rattle.std.specs.Option.{option_or}
 use Rattle.std.specs.Str.{bytes_eq}
 use Rattle.p8_tree.specs.Names.{result_word}
 use Rattle.p8_tree.specs.Sources.{MethodTree, Source}
-use Rattle.p8_kinds.specs.declared.meanings.Meaning.{Meaning}
-use Rattle.p8_kinds.specs.declared.meanings.Meaning.TheVariants as meaning_case
+use Rattle.p8_fold.specs.declared.meanings.Meaning.{Meaning}
+use Rattle.p8_fold.specs.declared.meanings.Meaning.TheVariants as meaning_case
 use Rattle.p8_constants.specs.FileItems.{items}
 use Rattle.p8_kinds.specs.declared.children.Child.{Child}
 use Rattle.p8_kinds.specs.declared.children.ChildConst.{ChildConst}

@@ -13,8 +13,8 @@ use Rattle.p8_tree.specs.Projects.{NamedSource}
 use Rattle.p8_tree.specs.Proper.{IsSize, IfThere, IsProperFile, IsProperBlock, IsProperLine, IsProperDatum, AreProperContents}
 use Rattle.p8_words.specs.Operators.{or_zero}
 use Rattle.p8_tree.specs.Names.{is_local}
-use Rattle.p8_kinds.specs.Meanings.{Setting}
-use Rattle.p8_kinds.specs.Values.{value}
+use Rattle.p8_fold.specs.Meanings.{Setting}
+use Rattle.p8_fold.specs.Values.{value}
 use Rattle.p8_dat.specs.Encoding.{long_of_line}
 use Rattle.p8_kinds.specs.declared.children.Children.{Children}
 use Rattle.p8_kinds.specs.declared.kinds.Kinds.{Kinds}

@@ -4,10 +4,10 @@ use Rattle.std.proofs.lemmas.Bool.Decides.{nat_tests}
 use Rattle.p8_tree.specs.Expressions.{Tree, node, Number, Str, Strings, Here, Var, Call, Unary, Binary, Assign, Change, Address, ObjectAddress, ObjConst, Built, Look, Named, Part, Memory, Register, no_index, index}
 use Rattle.p8_bytecode.specs.Table.{rows}
 use Rattle.p8_words.specs.Operators.{or_zero, unary_value, binary_value}
-use Rattle.p8_kinds.specs.declared.meanings.Meaning.{Meaning}
-use Rattle.p8_kinds.specs.declared.meanings.Meaning.TheVariants as meaning_case
-use Rattle.p8_kinds.specs.Meanings.{Setting, meaning_of, value_of_meaning, given}
-use Rattle.p8_kinds.specs.Values as constants
+use Rattle.p8_fold.specs.declared.meanings.Meaning.{Meaning}
+use Rattle.p8_fold.specs.declared.meanings.Meaning.TheVariants as meaning_case
+use Rattle.p8_fold.specs.Meanings.{Setting, meaning_of, value_of_meaning, given}
+use Rattle.p8_fold.specs.Values as constants
 use Rattle.p8_gen.specs.Names.{Names}
 use Rattle.p8_gen.specs.Pieces.{Written, nothing, byte, with_number}
 use Rattle.p8_gen.specs.Variables.{number}

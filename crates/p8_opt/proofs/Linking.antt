@@ -9,7 +9,7 @@ use Rattle.p8_bytecode.specs.Table.{rows}
 use Rattle.p8_kinds.specs.declared.name_kinds.NameKind.{NameKind}
 use Rattle.p8_kinds.specs.declared.name_kinds.NameKind.TheVariants as kinds
 use Rattle.p8_words.specs.Operators.{or_zero}
-use Rattle.p8_kinds.specs.Values as constants
+use Rattle.p8_fold.specs.Values as constants
 use Rattle.p8_gen.specs.Names.{Names, moved}
 use Rattle.p8_gen.specs.Pieces.{Written, Piece, empty, from_place, nothing, one, ◌⨾◌, from_start, up_to_end, up_to_jumps, of_statement, byte, text, told, jump, end_of_jump, jumping, end_of_jumping}
 use Rattle.p8_gen.specs.Variables.{number, Home, Operation, plain_op, home_of, Pop, assigned}

@@ -9,7 +9,7 @@ use Rattle.p8_tree.specs.Lists.{tree_list, count_of_trees}
 use Rattle.p8_tree.specs.Proper as proper
 use Rattle.p8_tree.specs.Proper.{IsProperTree, IsProperForm, IsProperVariable, IsProperIndex, AreProperBits, IsProperItem, AreProperTrees, AreProperItems, IsDone, IsDoneForm, IsProperCourse, IsProperTest, AreProperTests, IsCondition, IsProperExpression, IsProperStatement, AreProperArms, AreProperChoices, IsProperOtherwise, AreProperStatements, gives_value, gives_no_value}
 use Rattle.p8_tree.specs.declared.faults.Fault.{Fault}
-use Rattle.p8_kinds.specs.Values.{FaultInTrees}
+use Rattle.p8_fold.specs.Values.{FaultInTrees}
 use Rattle.p8_kinds.specs.Environments.{Environment}
 use Rattle.p8_kinds.specs.Misuses.{own_misuse, misuse_of_value, misuse_of_variable, misuse_of_call, misuse_of_arguments, in_method, BrokenIn, BrokenInside, BrokenInVariable, BrokenInIndex, BrokenInBits, BrokenInItem, BrokenInTrees, BrokenInItems, MisuseIn, name_alone, MisuseDone, MisuseInOption, MisuseInItems, MisuseInCourse, MisuseInStatements, MisuseInStatement, MisuseInOtherwise, MisuseInArms, MisuseInArm}
 use Rattle.p8_meaning.specs.Constants.{Constants, shorter_number}

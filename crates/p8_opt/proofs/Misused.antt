@@ -8,8 +8,8 @@ use Rattle.p8_tree.specs.Lists.{count_of_trees}
 use Rattle.p8_tree.specs.declared.faults.Fault.{Fault}
 use Rattle.p8_tree.specs.Faults.{fault}
 use Rattle.p8_tree.specs.declared.refusal.Refusal.TheVariants.{Unknown}
-use Rattle.p8_kinds.specs.Values.{FaultIn, FaultInTrees, FaultOfItem, FaultInText, fault_of_character, string_of, where_so, HasValue, IsRefused}
-use Rattle.p8_kinds.proofs.Judged.{one_outcome}
+use Rattle.p8_fold.specs.Values.{FaultIn, FaultInTrees, FaultOfItem, FaultInText, fault_of_character, string_of, where_so, HasValue, IsRefused}
+use Rattle.p8_fold.proofs.Judged.{one_outcome}
 use Rattle.p8_kinds.specs.declared.name_kinds.NameKind.{NameKind}
 use Rattle.p8_kinds.specs.declared.name_kinds.NameKind.TheVariants as kind_case
 use Rattle.p8_kinds.specs.declared.uses.Use.{Use}

@@ -9,7 +9,7 @@ use Rattle.p8_tree.specs.Names.{result_word, is_reserved, IsName, IsLabel, plain
 use Rattle.p8_tree.specs.Sources as trees
 use Rattle.p8_tree.specs.Sources.{Constant, Declared, MethodTree, Line, BlockTree, Source}
 use Rattle.p8_tree.specs.Proper.{IsProperFile, IsProperBlock, IsProperConstant, setting, with_value, counted, IsProperLocal, IsProperMethod, IfThere}
-use Rattle.p8_kinds.specs.Meanings.{Setting}
+use Rattle.p8_fold.specs.Meanings.{Setting}
 use Rattle.p8_constants.specs.FileItems.{Item, constant, variable, object, method, line, block_items, items}
 use Rattle.p8_constants.specs.Names.{name_of, label_name, predefined, truth_and_limits, internal_clocks, external_clocks, low_factors, high_factors}
 use Rattle.p8_constants.specs.Rules.{count_in}

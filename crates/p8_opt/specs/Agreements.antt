@@ -35,5 +35,6 @@ HaveRoom n = (name : List ℕ) (kind : NameKind) → n.kind name ≡ Some kind �
 abbrev pub NamesHaveRoom : (changed : ℕ → Source) → List NamedSource → List Children → List CompiledFile → Type 0
 NamesHaveRoom changed files children xs =
     (instance : Instance) → IsInstance (with_sources changed (program_of files children xs)) (addresses_of files xs (objects_of files children xs)) instance
-    → (file : NamedSource) (seen : Children) (x : CompiledFile) → slice_get files instance.file ≡ Some file → slice_get children instance.file ≡ Some seen → slice_get xs instance.file ≡ Some x
+    → (file : NamedSource) (seen : Children) (x : CompiledFile) → slice_get files instance.file ≡ Some file →
+    slice_get children instance.file ≡ Some seen → slice_get xs instance.file ≡ Some x
     → (k : ℕ) (m : MethodTree) → slice_get (numbered (items file.tree)) k ≡ Some m → HaveRoom (names_of files file seen x k m)

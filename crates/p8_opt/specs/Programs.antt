@@ -1,5 +1,6 @@
 -- A project as its source's meaning reads it, and the addresses that its image has.
-use Rattle.std.specs.Prelude.{ℕ, zero, suc, ◌+◌, ◌-◌, ◌%◌, List, [], ◌∷◌, length, map, slice_get, slice_index, Option, option_map, unwrap_or, nat_le, if◌then◌else◌}
+use Rattle.std.specs.Prelude.{ℕ, zero, suc, ◌+◌, ◌-◌, ◌%◌, List, [], ◌∷◌, length, map, slice_get, slice_index, Option, option_map, unwrap_or, nat_le}
+use Rattle.std.specs.Prelude.{if◌then◌else◌}
 use Rattle.p8_tree.specs.Sources.{Child, Source}
 use Rattle.p8_tree.specs.Projects.{NamedSource}
 use Rattle.p8_words.specs.Operators.{or_zero}
@@ -66,7 +67,8 @@ inner_base all file position object =
 abbrev pub addresses_of : List NamedSource → List CompiledFile → List ObjectPart → Addresses
 addresses_of files xs all = record {
   label = λ file name. of_file (λ (x : CompiledFile). or_zero (first_offset x.labels name)) xs file;
-  text = λ file place. of_file (λ (object : ObjectPart). slice_index (text_offsets object) (of_file (λ (f : NamedSource). text_number (strings_of f.tree) place) files file)) all file;
+  text = λ file place. of_file (λ (object : ObjectPart). slice_index (text_offsets object)
+      (of_file (λ (f : NamedSource). text_number (strings_of f.tree) place) files file)) all file;
   code = λ file method. of_file (λ (object : ObjectPart). code_offset object (method - 1)) all file;
   object_base = λ file position. of_file (inner_base all file position) all file;
   object_variables = λ file position. of_file (λ (object : ObjectPart). inner_offset all object (instance_number object position) % 65536) all file;

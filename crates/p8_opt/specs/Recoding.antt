@@ -35,7 +35,8 @@ pub record HaveCodes (source changed : Source) (children : Children) (x : Compil
   pub few : are_too_many (instances (setting_of children x) (objects (items source))) (length (numbered (items source))) ≡ false
   pub methods : length (numbered (items changed)) ≡ length (numbered (items source))
   pub count : length x.codes ≡ length (numbered (items source))
-  pub each : (k : ℕ) (m n : MethodTree) (code : MethodCode) → slice_get (numbered (items source)) k ≡ Some m → slice_get (numbered (items changed)) k ≡ Some n → slice_get x.codes k ≡ Some code
+  pub each : (k : ℕ) (m n : MethodTree) (code : MethodCode) → slice_get (numbered (items source)) k ≡ Some m →
+      slice_get (numbered (items changed)) k ≡ Some n → slice_get x.codes k ≡ Some code
       → (n ≡ rebodied m n.body) × IsRecoded (method_names children x k m) m n.body code
 
 -- a file is compiled to this, with codes of the methods of the changed source
@@ -47,4 +48,5 @@ pub record IsRecodedFile (source changed : Source) (children : Children) (top : 
 -- each file is; the first one is the top file
 pub record AreRecoded (files : List NamedSource) (changed : ℕ → Source) (children : List Children) (xs : List CompiledFile) : Type 0 where
   pub count : length xs ≡ length files
-  pub each : (i : ℕ) (file : NamedSource) (seen : Children) (x : CompiledFile) → IsFile files children i file seen → slice_get xs i ≡ Some x → IsRecodedFile file.tree (changed i) seen (i == 0) x
+  pub each : (i : ℕ) (file : NamedSource) (seen : Children) (x : CompiledFile) → IsFile files children i file seen → slice_get xs i ≡ Some x →
+      IsRecodedFile file.tree (changed i) seen (i == 0) x

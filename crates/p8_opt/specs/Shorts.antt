@@ -32,7 +32,8 @@ pub record IsShort (source : Source) (children : Children) (x y : CompiledFile) 
 -- each file of a project has
 pub record AreShort (files : List NamedSource) (children : List Children) (xs ys : List CompiledFile) : Type 0 where
   pub count : length ys ≡ length xs
-  pub each : (i : ℕ) (file : NamedSource) (seen : Children) (x y : CompiledFile) → IsFile files children i file seen → slice_get xs i ≡ Some x → slice_get ys i ≡ Some y → IsShort file.tree seen x y
+  pub each : (i : ℕ) (file : NamedSource) (seen : Children) (x y : CompiledFile) → IsFile files children i file seen → slice_get xs i ≡ Some x →
+      slice_get ys i ≡ Some y → IsShort file.tree seen x y
 
 -- The project is accepted as it stands, and with short code its image has this clock and these objects.
 pub record IsShortBuilt (files : List NamedSource) (clock : Clock) (objects : List ObjectPart) : Type 0 where

@@ -4,7 +4,7 @@ use Rattle.p8_tree.specs.Projects.{NamedSource}
 use Rattle.p8_tree.specs.Proper.{IsProperFile}
 use Rattle.p8_tree.specs.Sources.{MethodTree, Source}
 use Rattle.p8_tree.specs.declared.faults.Fault.{Fault}
-use Rattle.p8_kinds.specs.ConstantEntries.{setting_of as setting_in}
+use Rattle.p8_fold.specs.ConstantEntries.{setting_of as setting_in}
 use Rattle.p8_kinds.specs.declared.children.Children.{Children}
 use Rattle.p8_kinds.specs.declared.kinds.Kinds.{Kinds}
 use Rattle.p8_gen.specs.Names.{Names}
@@ -36,7 +36,8 @@ pub record AreFoldable (kinds : Kinds) (tables : Tables) (ms : List MethodTree) 
 
 -- the short codes of the first methods
 pub record AreShortCodes (kinds : Kinds) (tables : Tables) (ms : List MethodTree) (codes : List MethodCode) : Type 0 where
-  pub each : (k : ℕ) (m : MethodTree) (code : MethodCode) → slice_get ms k ≡ Some m → slice_get codes k ≡ Some code → IsShortCode (names_with kinds tables k m) m (folded_body (constants_by tables) m.body) code
+  pub each : (k : ℕ) (m : MethodTree) (code : MethodCode) → slice_get ms k ≡ Some m → slice_get codes k ≡ Some code →
+      IsShortCode (names_with kinds tables k m) m (folded_body (constants_by tables) m.body) code
 
 -- a file of an accepted project, with what is worked out of it
 pub record IsAcceptedFile (f : AcceptedFile) : Type 0 where
@@ -61,4 +62,5 @@ pub record AreAcceptedFiles (accepted : List AcceptedFile) : Type 0 where
   pub each : (i : ℕ) (f : AcceptedFile) → slice_get accepted i ≡ Some f → IsAcceptedFile f
 
 pub record AreShortObjects (files : List NamedSource) (accepted : List AcceptedFile) (objects : List ObjectPart) : Type 0 where
-  pub each : (i : ℕ) (f : AcceptedFile) (object : ObjectPart) → slice_get accepted i ≡ Some f → slice_get objects i ≡ Some object → IsItsShortObject files f object
+  pub each : (i : ℕ) (f : AcceptedFile) (object : ObjectPart) → slice_get accepted i ≡ Some f → slice_get objects i ≡ Some object →
+      IsItsShortObject files f object

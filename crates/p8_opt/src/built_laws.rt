@@ -19,14 +19,18 @@ use p8_image::image_loads;
 /// The files are those of a project with the top file first, each one read, under names of their own, and the file of each object among them, and none
 /// leads back to itself through its objects.
 pub fn built_images_keep_meaning()
-    ensures { (files : List NamedSource) → AreProper files → 0 < length files → AreDistinct files → HaveMentioned files → HaveNoRing files → (image : ImageValue) → (is : IsImageBuilt files image) → KeepsMeaning (memory_of image.file) (program_of files is.0.built.children is.0.built.compiled) (addresses_of files is.0.built.compiled is.0.objects) }
+    ensures { (files : List NamedSource) → AreProper files → 0 < length files → AreDistinct files → HaveMentioned files → HaveNoRing files →
+        (image : ImageValue) → (is : IsImageBuilt files image) →
+        KeepsMeaning (memory_of image.file) (program_of files is.0.built.children is.0.built.compiled) (addresses_of files is.0.built.compiled is.0.objects) }
 {
     images_keep_meaning();
 }
 
 /// Law: so does the image that [`build_short`](crate::build_short) answers: of the source as it stands, at the addresses of the short code.
 pub fn built_short_images_keep_meaning()
-    ensures { (files : List NamedSource) → AreProper files → 0 < length files → AreDistinct files → HaveMentioned files → HaveNoRing files → (image : ImageValue) → (is : IsShortImageBuilt files image) → KeepsMeaning (memory_of image.file) (program_of files is.0.built.children is.0.built.compiled) (addresses_of files is.0.built.short is.0.objects) }
+    ensures { (files : List NamedSource) → AreProper files → 0 < length files → AreDistinct files → HaveMentioned files → HaveNoRing files →
+        (image : ImageValue) → (is : IsShortImageBuilt files image) →
+        KeepsMeaning (memory_of image.file) (program_of files is.0.built.children is.0.built.compiled) (addresses_of files is.0.built.short is.0.objects) }
 {
     crate::laws::short_images_keep_meaning();
 }
@@ -41,7 +45,8 @@ pub fn built_images_load()
 
 /// Law: so it takes the file of the image that [`build_short`](crate::build_short) answers.
 pub fn short_images_load()
-    ensures { (files : List NamedSource) → AreProper files → 0 < length files → (image : ImageValue) → (is : IsShortImageBuilt files image) → LoadsAs image is.0.objects }
+    ensures { (files : List NamedSource) → AreProper files → 0 < length files → (image : ImageValue) → (is : IsShortImageBuilt files image) →
+        LoadsAs image is.0.objects }
 {
     image_loads();
 }

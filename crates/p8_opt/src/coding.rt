@@ -42,7 +42,8 @@ fn short_method(
     method: &Method,
 ) -> Result<MethodCode, NoMemory>
     requires { CanBeFolded (names_with kinds.now tables.now index (method_of method.now)) (constants_by tables.now) (method_of method.now) }
-    ensures { IfOk result (IsShortCode (names_with kinds.now tables.now index (method_of method.now)) (method_of method.now) (folded_body (constants_by tables.now) (method_of method.now).body)) }
+    ensures { IfOk result (IsShortCode (names_with kinds.now tables.now index (method_of method.now)) (method_of method.now)
+        (folded_body (constants_by tables.now) (method_of method.now).body)) }
 {
     let body = folded_body(alloc, &tables.consts, method.body.as_slice())?;
     let number = number_of(index)?;

@@ -42,7 +42,8 @@ pub fn folded_bodies_are_proper()
 
 /// Law: where no name of a body is used against its kind, none of the folded body is.
 pub fn folded_bodies_misuse_nothing()
-    ensures { (env : Environment) → (c : Constants) → (ss : Statements) → AreProperStatements ss → ((f : Fault) → ¬ MisuseInStatements env ss f) → (f : Fault) → ¬ MisuseInStatements env (folded_body c ss) f }
+    ensures { (env : Environment) → (c : Constants) → (ss : Statements) → AreProperStatements ss → ((f : Fault) → ¬ MisuseInStatements env ss f) →
+        (f : Fault) → ¬ MisuseInStatements env (folded_body c ss) f }
 {}
 
 /// Law: the code of a folded method, with all its jumps wide, is no longer than that of the method, holds no more on
@@ -52,9 +53,12 @@ pub fn folded_bodies_misuse_nothing()
 /// The method was read, and what is a constant of its file where a number is needed is that constant in its statements,
 /// too.
 pub fn folded_methods_are_no_longer()
-    ensures length { (n : Names) → n.wide ≡ all_wide → HideNoConstant n → (ss : Statements) → AreProperStatements ss → length (bytes_of (method_code n (folded_body (constants_in n.constants) ss))) ≤ length (bytes_of (method_code n ss)) }
-    ensures depth { (n : Names) → n.wide ≡ all_wide → HideNoConstant n → (ss : Statements) → held_in n (folded_body (constants_in n.constants) ss) ≤ held_in n ss }
-    ensures faults { (n : Names) → n.wide ≡ all_wide → HideNoConstant n → (m : MethodTree) → AreProperStatements m.body → ((f : Fault) → ¬ IsMethodFault n m f) → (f : Fault) → ¬ IsMethodFault n (rebodied m (folded_body (constants_in n.constants) m.body)) f }
+    ensures length { (n : Names) → n.wide ≡ all_wide → HideNoConstant n → (ss : Statements) → AreProperStatements ss →
+        length (bytes_of (method_code n (folded_body (constants_in n.constants) ss))) ≤ length (bytes_of (method_code n ss)) }
+    ensures depth { (n : Names) → n.wide ≡ all_wide → HideNoConstant n → (ss : Statements) →
+        held_in n (folded_body (constants_in n.constants) ss) ≤ held_in n ss }
+    ensures faults { (n : Names) → n.wide ≡ all_wide → HideNoConstant n → (m : MethodTree) → AreProperStatements m.body →
+        ((f : Fault) → ¬ IsMethodFault n m f) → (f : Fault) → ¬ IsMethodFault n (rebodied m (folded_body (constants_in n.constants) m.body)) f }
 {
     code_ends_where_its_bytes_do();
 }
@@ -62,8 +66,12 @@ pub fn folded_methods_are_no_longer()
 /// Law: a file whose names are resolved has what is asked: its constants, and those of the files of its objects, are
 /// words, and no name of a method that was read hides one of them.
 pub fn resolved_files_can_be_folded()
-    ensures words { (files : List NamedSource) → (all : List Children) → AreChildren files all → (i : ℕ) → (file : NamedSource) → (seen : Children) → slice_get files i ≡ Some file → slice_get all i ≡ Some seen → (top : Bool) → (found : Kinds) → IsNamed file.tree seen top found → AreWords (constants_in (file_setting found seen)) }
-    ensures names { (source : Source) → (seen : Children) → (top : Bool) → (found : Kinds) → IsNamed source seen top found → (k : ℕ) → (m : MethodTree) → slice_get (numbered (items source)) k ≡ Some m → IsProperMethod m → (labels : List Label) → (statement : Place) → HideNoConstant (names_in found seen labels (k + 1) statement) }
+    ensures words { (files : List NamedSource) → (all : List Children) → AreChildren files all → (i : ℕ) → (file : NamedSource) → (seen : Children) →
+        slice_get files i ≡ Some file → slice_get all i ≡ Some seen → (top : Bool) → (found : Kinds) → IsNamed file.tree seen top found →
+        AreWords (constants_in (file_setting found seen)) }
+    ensures names { (source : Source) → (seen : Children) → (top : Bool) → (found : Kinds) → IsNamed source seen top found → (k : ℕ) →
+        (m : MethodTree) → slice_get (numbered (items source)) k ≡ Some m → IsProperMethod m → (labels : List Label) → (statement : Place) →
+        HideNoConstant (names_in found seen labels (k + 1) statement) }
 {
     resolved_constants_are_words();
     own_names_are_apart();
@@ -73,8 +81,15 @@ pub fn resolved_files_can_be_folded()
 /// objects: for each method the constants are those of the whole file. What the names of the file are in a method is
 /// what was resolved; a number that no method has counts as 0.
 pub fn resolved_files_hide_none()
-    ensures constants { (source : Source) → (seen : Children) → (top : Bool) → (found : Kinds) → IsNamed source seen top found → ((k : ℕ) → (m : MethodTree) → slice_get (numbered (items source)) k ≡ Some m → IsProperMethod m) → (f : File) → f.children ≡ seen.items → ((method : ℕ) → (name : List ℕ) → f.kind method name ≡ kind_of found (if nat_le method (length (numbered (items source))) then method else 0) name) → (method : ℕ) → constants_of f method ≡ constants_in (file_setting found seen) }
-    ensures hides { (source : Source) → (seen : Children) → (top : Bool) → (found : Kinds) → IsNamed source seen top found → ((k : ℕ) → (m : MethodTree) → slice_get (numbered (items source)) k ≡ Some m → IsProperMethod m) → (f : File) → f.children ≡ seen.items → ((method : ℕ) → (name : List ℕ) → f.kind method name ≡ kind_of found (if nat_le method (length (numbered (items source))) then method else 0) name) → HidesNone f }
+    ensures constants { (source : Source) → (seen : Children) → (top : Bool) → (found : Kinds) → IsNamed source seen top found →
+        ((k : ℕ) → (m : MethodTree) → slice_get (numbered (items source)) k ≡ Some m → IsProperMethod m) → (f : File) → f.children ≡ seen.items →
+        ((method : ℕ) → (name : List ℕ) → f.kind method name ≡
+        kind_of found (if nat_le method (length (numbered (items source))) then method else 0) name) → (method : ℕ) →
+        constants_of f method ≡ constants_in (file_setting found seen) }
+    ensures hides { (source : Source) → (seen : Children) → (top : Bool) → (found : Kinds) → IsNamed source seen top found →
+        ((k : ℕ) → (m : MethodTree) → slice_get (numbered (items source)) k ≡ Some m → IsProperMethod m) → (f : File) → f.children ≡ seen.items →
+        ((method : ℕ) → (name : List ℕ) → f.kind method name ≡
+        kind_of found (if nat_le method (length (numbered (items source))) then method else 0) name) → HidesNone f }
 {
     own_names_are_apart();
 }

@@ -24,7 +24,8 @@ use p8_names::one_for_each_project;
 
 /// Law: with short code a project is built to one thing alone.
 pub fn one_short_build()
-    ensures { (files : List NamedSource) → AreDistinct files → HaveNoRing files → (c d : Clock) → (a b : List ObjectPart) → IsShortBuilt files c a → IsShortBuilt files d b → (c ≡ d) × (a ≡ b) }
+    ensures { (files : List NamedSource) → AreDistinct files → HaveNoRing files → (c d : Clock) → (a b : List ObjectPart) → IsShortBuilt files c a →
+        IsShortBuilt files d b → (c ≡ d) × (a ≡ b) }
 {
     one_for_each_project();
 }
@@ -35,7 +36,9 @@ pub fn one_short_build()
 /// The files are those of a project with the top file first, each one read, under names of their own, and the file of
 /// each object among them, and none leads back to itself through its objects.
 pub fn short_images_keep_meaning()
-    ensures { (files : List NamedSource) → (clock : Clock) → (objects : List ObjectPart) → AreProper files → 0 < length files → AreDistinct files → HaveMentioned files → HaveNoRing files → (b : IsShortBuilt files clock objects) → KeepsMeaning (memory_of (image_of clock objects)) (program_of files b.children b.compiled) (addresses_of files b.short objects) }
+    ensures { (files : List NamedSource) → (clock : Clock) → (objects : List ObjectPart) → AreProper files → 0 < length files → AreDistinct files →
+        HaveMentioned files → HaveNoRing files → (b : IsShortBuilt files clock objects) →
+        KeepsMeaning (memory_of (image_of clock objects)) (program_of files b.children b.compiled) (addresses_of files b.short objects) }
 {
     recoded_images_keep_meaning();
     folds_keep_meaning();
@@ -45,7 +48,10 @@ pub fn short_images_keep_meaning()
 /// Law: in the ended history of a world that begins with the image of an accepted project with short code, each life of
 /// Spin is told by the project's source as it stands. The files are as above.
 pub fn short_lives_are_told()
-    ensures { (files : List NamedSource) → (clock : Clock) → (objects : List ObjectPart) → AreProper files → 0 < length files → AreDistinct files → HaveMentioned files → HaveNoRing files → (b : IsShortBuilt files clock objects) → (w : World) → w.memory ≡ memory_of (image_of clock objects) → w.first ≡ start_of (header_of (image_of clock objects)) → (past : List Turn) → Ended asks w past → SpinIsTold (program_of files b.children b.compiled) (addresses_of files b.short objects) w past }
+    ensures { (files : List NamedSource) → (clock : Clock) → (objects : List ObjectPart) → AreProper files → 0 < length files → AreDistinct files →
+        HaveMentioned files → HaveNoRing files → (b : IsShortBuilt files clock objects) → (w : World) →
+        w.memory ≡ memory_of (image_of clock objects) → w.first ≡ start_of (header_of (image_of clock objects)) → (past : List Turn) →
+        Ended asks w past → SpinIsTold (program_of files b.children b.compiled) (addresses_of files b.short objects) w past }
 {
     recoded_images_have_their_methods();
     lives_are_told();

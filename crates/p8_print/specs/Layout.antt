@@ -3,7 +3,8 @@
 use Rattle.std.specs.Prelude.{ℕ, ◌+◌, Bool, true, false, if◌then◌else◌, List, [], ◌∷◌, ◌++◌, map}
 use Rattle.std.specs.List.{flat_map}
 use Rattle.p8_tree.specs.Statements as trees
-use Rattle.p8_tree.specs.Statements.{Course, Forever, After, Statement, statement, Action, Arm, arm, Otherwise, nothing_else, otherwise, Statements, no_statements, ◌▹◌, Arms, no_arms, ◌⊳◌}
+use Rattle.p8_tree.specs.Statements.{Course, Forever, After, Statement, statement, Action, Arm, arm, Otherwise, nothing_else, otherwise, Statements}
+use Rattle.p8_tree.specs.Statements.{no_statements, ◌▹◌, Arms, no_arms, ◌⊳◌}
 use Rattle.p8_tree.specs.Expressions.{Tree, Items, ◌▸◌, single, node, Here}
 use Rattle.p8_tree.specs.Forgetting.{anywhere}
 use Rattle.p8_tree.specs.Sources as sources
@@ -64,7 +65,8 @@ abbrev mutual
 
   pub lines_of_arms : ℕ → Arms → List Indented
   lines_of_arms n no_arms = []
-  lines_of_arms n (xs ⊳ arm tests negated ss) = lines_of_arms n xs ++ indented n (arm_kind (is_first xs) negated (test_of tests)) ∷ lines_of_statements (n + 2) ss
+  lines_of_arms n (xs ⊳ arm tests negated ss) = lines_of_arms n xs ++ indented n (arm_kind (is_first xs) negated (test_of tests)) ∷
+      lines_of_statements (n + 2) ss
 
   pub lines_of_else : ℕ → Otherwise → List Indented
   lines_of_else n nothing_else = []

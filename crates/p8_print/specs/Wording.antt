@@ -4,7 +4,9 @@ use Rattle.std.specs.Prelude.{ℕ, ◌==◌, Bool, true, false, if◌then◌else
 use Rattle.p8_lexer.specs.declared.word.Word.TheVariants as word
 use Rattle.p8_lexer.specs.Words.{same}
 use Rattle.p8_grammar.specs.Grammar.{result_name}
-use Rattle.p8_tree.specs.Expressions.{Tree, node, Form, Number, Str, Strings, Here, Var, Call, Unary, Binary, Assign, Change, Address, ObjectAddress, ObjConst, Built, Look, Variable, Named, Part, Memory, Register, Index, no_index, index, Bits, whole, bits, Item, single, range, Trees, no_trees, ◌▷◌, Items, no_items, ◌▸◌}
+use Rattle.p8_tree.specs.Expressions.{Tree, node, Form, Number, Str, Strings, Here, Var, Call, Unary, Binary, Assign, Change, Address, ObjectAddress}
+use Rattle.p8_tree.specs.Expressions.{ObjConst, Built, Look, Variable, Named, Part, Memory, Register, Index, no_index, index, Bits, whole, bits}
+use Rattle.p8_tree.specs.Expressions.{Item, single, range, Trees, no_trees, ◌▷◌, Items, no_items, ◌▸◌}
 use Rattle.p8_print.specs.Spelled.{Spelled, reserved, name, number, string, word_of_label}
 use Rattle.p8_print.specs.Tables.{assignment_word, is_boolean, operator_word, change_word, is_behind, size_word, register_word, built_word}
 
@@ -67,7 +69,8 @@ abbrev mutual
   pub words_of_variable : Variable → List Spelled
   words_of_variable (Named n i place) = words_of_name n ++ words_of_index i
   words_of_variable (Part n size i place) = words_of_name n ++ reserved word.Dot ∷ reserved (size_word size) ∷ words_of_index i
-  words_of_variable (Memory size e i place) = reserved (size_word size) ∷ reserved word.LeftBracket ∷ (words_of e ++ reserved word.RightBracket ∷ words_of_index i)
+  words_of_variable (Memory size e i place) = reserved (size_word size) ∷ reserved word.LeftBracket ∷
+      (words_of e ++ reserved word.RightBracket ∷ words_of_index i)
   words_of_variable (Register address x place) = reserved (register_word address) ∷ words_of_bits x
 
   pub words_of_index : Index → List Spelled

@@ -99,7 +99,8 @@ fn write_prefixed(
     operator: Word,
     operand: &Expr,
 ) -> Result<(), NoMemory>
-    ensures { OnOk result (script.new ≡ script.old ++ text_of_words (reserved operator ∷ operand_with (is_number (tree_of operand.now)) (words_of (tree_of operand.now)))) }
+    ensures { OnOk result (script.new ≡ script.old ++
+        text_of_words (reserved operator ∷ operand_with (is_number (tree_of operand.now)) (words_of (tree_of operand.now)))) }
 {
     write_word(script, operator)?;
     write_operand(alloc, script, operand)
@@ -344,7 +345,8 @@ fn write_looked_for(
     code: u8,
     value: &Expr,
 ) -> Result<(), NoMemory>
-    ensures { OnOk result (script.new ≡ script.old ++ text_of_words (reserved (built_word code) ∷ reserved word_case.LeftParenthesis ∷ (words_of (tree_of value.now) ++ reserved word_case.Colon ∷ []))) }
+    ensures { OnOk result (script.new ≡ script.old ++
+        text_of_words (reserved (built_word code) ∷ reserved word_case.LeftParenthesis ∷ (words_of (tree_of value.now) ++ reserved word_case.Colon ∷ []))) }
 {
     write_word(script, word_for(Sought::BuiltIn(code)))?;
     write_word(script, Word::LeftParenthesis)?;

@@ -124,7 +124,8 @@ fn write_method(alloc: Global, script: &mut Script, method: &Method) -> Result<(
 
 // The line of a method's head.
 fn write_head_line(alloc: Global, script: &mut Script, method: &Method) -> Result<(), NoMemory>
-    ensures { OnOk result (script.new ≡ script.old ++ text_of_line (line 0 (reserved (if (method_of method.now).public then word_case.Pub else word_case.Pri) ∷ words_of_head (method_of method.now)))) }
+    ensures { OnOk result (script.new ≡ script.old ++
+        text_of_line (line 0 (reserved (if (method_of method.now).public then word_case.Pub else word_case.Pri) ∷ words_of_head (method_of method.now)))) }
 {
     script.begin_line(0)?;
     write_word(script, method_word(method.public))?;

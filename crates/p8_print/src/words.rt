@@ -47,7 +47,9 @@ pub(crate) fn write_number(script: &mut Script, value: u32) -> Result<(), NoMemo
 
 // STRING("..")
 pub(crate) fn write_string(script: &mut Script, text: &Text) -> Result<(), NoMemory>
-    ensures { OnOk result (script.new ≡ script.old ++ text_of_words (spelled.reserved word_case.String ∷ spelled.reserved word_case.LeftParenthesis ∷ spelled.string text.now ∷ spelled.reserved word_case.RightParenthesis ∷ [])) }
+    ensures { OnOk result (script.new ≡ script.old ++
+        text_of_words (spelled.reserved word_case.String ∷ spelled.reserved word_case.LeftParenthesis ∷ spelled.string text.now ∷
+        spelled.reserved word_case.RightParenthesis ∷ [])) }
 {
     write_word(script, Word::String)?;
     write_word(script, Word::LeftParenthesis)?;

@@ -14,9 +14,9 @@ use Rattle.p8_lexer.specs.declared.word.Word.TheVariants as word
 use Rattle.p8_lexer.specs.declared.piece.Radix.TheVariants as radix
 use Rattle.p8_lexer.specs.declared.piece.Class.TheVariants as class
 use Rattle.p8_lexer.specs.Lexing.{is_letter, is_line_end, is_digit, is_in, digit_value, value_behind}
-use Rattle.p8_lexer.specs.Words.{spelling, other_spellings, symbols, every_word, capital, same, is_among, first_spelled, word_spelled}
+use Rattle.p8_lexer.specs.Words.{spelling, symbols, every_word, capital, same, first_spelled, word_spelled}
 use Rattle.p8_lexer.proofs.Symbols.{passes_at, at_tag}
-use Rattle.p8_lexer.proofs.Searches.{same-refl, same-true, read_back}
+use Rattle.p8_lexer.proofs.Searches.{same-true, read_back, spells_itself}
 use Rattle.p8_print.specs.Spelled.{is_free}
 
 -- tests
@@ -96,7 +96,7 @@ reserved_is w free = go (chosen (is_free w) (well_spelled w) (all_well_spelled w
 
 pub spelled_back : (w : Word) → IsReserved w → word_spelled (spelling w) ≡ Some w
 spelled_back w r =
-    ap (λ t. first_spelled t every_word) r.capitals ∙ read_back w (spelling w) r.some (ap (λ b. b || is_among (other_spellings w) (spelling w)) (same-refl (spelling w)))
+    ap (λ t. first_spelled t every_word) r.capitals ∙ read_back w (spelling w) (spells_itself w r.some)
 
 -- no symbol has a blank inside
 

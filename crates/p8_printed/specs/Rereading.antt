@@ -41,11 +41,14 @@ with_line_end false ts t = ts
 pub record ReadsBack {V : Type 0} (value : List Piece → Option V) (anywhere : V → V) (q : State) (words : List Spelled) (v : V) : Type 0 where
   pub readable : All IsReadable words
   pub capitals : All IsInCapitals words
-  pub read : (ts : List LineToken) (t : LineToken) → AreSpelled words ts → word t ≡ word_case.LineEnd → (row : List Piece) × (v' : V) × Leads q (ts ++ t ∷ []) row state.End × (value row ≡ Some v') × (anywhere v' ≡ anywhere v)
+  pub read : (ts : List LineToken) (t : LineToken) → AreSpelled words ts → word t ≡ word_case.LineEnd →
+      (row : List Piece) × (v' : V) × Leads q (ts ++ t ∷ []) row state.End × (value row ≡ Some v') × (anywhere v' ≡ anywhere v)
 
 -- The words of a line of a method are read back as a line of the same kind, from the state from which such lines are read.
 -- An item of a CASE ends with its colon, so no end of a line is read with it.
 pub record LineReadsBack (k : Kind) : Type 0 where
   pub readable : All IsReadable (words_of_kind k)
   pub capitals : All IsInCapitals (words_of_kind k)
-  pub read : (ts : List LineToken) (t : LineToken) → AreSpelled (words_of_kind k) ts → word t ≡ word_case.LineEnd → (row : List Piece) × (k' : Kind) × Leads (begin_of k) (with_line_end (not (is_item k)) ts t) row state.End × (kind_of_row row ≡ Some k') × (kind_anywhere k' ≡ kind_anywhere k)
+  pub read : (ts : List LineToken) (t : LineToken) → AreSpelled (words_of_kind k) ts → word t ≡ word_case.LineEnd →
+      (row : List Piece) × (k' : Kind) × Leads (begin_of k) (with_line_end (not (is_item k)) ts t) row state.End × (kind_of_row row ≡ Some k') ×
+      (kind_anywhere k' ≡ kind_anywhere k)

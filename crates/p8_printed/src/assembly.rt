@@ -14,8 +14,10 @@ ghost use Rattle.p8_print.specs.DataWords.{words_of_line};
 
 /// A line of `DAT` is read back, but for places.
 pub fn data_read_back()
-    ensures head { (us : List LineToken) (row : List Piece) (x : Line) → Leads state_case.DatHead us row state_case.End → AreOfSource us → line_of_row row ≡ Some (Some x) → ReadsBack line_of_row (option_map line_anywhere) state_case.DatLine (words_of_line x) (Some x) }
-    ensures line { (us : List LineToken) (row : List Piece) (x : Line) → Leads state_case.DatLine us row state_case.End → AreOfSource us → line_of_row row ≡ Some (Some x) → ReadsBack line_of_row (option_map line_anywhere) state_case.DatLine (words_of_line x) (Some x) }
+    ensures head { (us : List LineToken) (row : List Piece) (x : Line) → Leads state_case.DatHead us row state_case.End → AreOfSource us →
+        line_of_row row ≡ Some (Some x) → ReadsBack line_of_row (option_map line_anywhere) state_case.DatLine (words_of_line x) (Some x) }
+    ensures line { (us : List LineToken) (row : List Piece) (x : Line) → Leads state_case.DatLine us row state_case.End → AreOfSource us →
+        line_of_row row ≡ Some (Some x) → ReadsBack line_of_row (option_map line_anywhere) state_case.DatLine (words_of_line x) (Some x) }
 {
     p8_expr::lexemes_are_proper();
     p8_blocks::rows_are_proper();

@@ -13,7 +13,8 @@ ghost use Rattle.p8_printed.specs.Trees.{IsOfFile};
 
 /// The tree that [`parse`](p8_blocks::parse) gives is one that a file has, at whatever places and of whatever length.
 pub fn trees_are_of_files()
-    ensures { (bytes : List ℕ) (tokens : List token.Token) (s : Source) → EachIndex bytes (λ i. slice_index bytes i < 256) → AreTokens bytes tokens → IsFileWithinLimits s (all_tokens bytes tokens) → IsOfFile s }
+    ensures { (bytes : List ℕ) (tokens : List token.Token) (s : Source) → EachIndex bytes (λ i. slice_index bytes i < 256) → AreTokens bytes tokens →
+        IsFileWithinLimits s (all_tokens bytes tokens) → IsOfFile s }
 {
     p8_expr::tokens_are_lexemes();
 }

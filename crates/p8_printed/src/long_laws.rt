@@ -7,7 +7,7 @@ ghost use Rattle.p8_lexer.specs.Lexing.{longest_file, AreTokens};
 ghost use Rattle.p8_lines.specs.Tokens.{all_tokens};
 ghost use Rattle.p8_blocks.specs.Files.{IsFileWithinLimits};
 ghost use Rattle.p8_tree.specs.declared.faults.Fault.{Fault};
-ghost use Rattle.p8_kinds.specs.Meanings.{Setting};
+ghost use Rattle.p8_fold.specs.Meanings.{Setting};
 ghost use Rattle.p8_kinds.specs.declared.children.Children.{Children};
 ghost use Rattle.p8_names.specs.Faults.{IsNameFault};
 ghost use Rattle.p8_dat.specs.Blocks.{dat_bytes, IsDatFault};
@@ -31,6 +31,7 @@ pub fn names_are_good()
 
 /// Law: whatever names mean, the `DAT` of this file is the four bytes of the long, the lowest first, and nothing is wrong with it.
 pub fn line_is_assembled()
-    ensures bytes { (base : Setting) (long : ℕ) (line : Line) → IsLineOf long line → long < 2 ^ 32 → dat_bytes base start (file_with line) ≡ to_le_bytes w32 long }
+    ensures bytes { (base : Setting) (long : ℕ) (line : Line) → IsLineOf long line → long < 2 ^ 32 →
+        dat_bytes base start (file_with line) ≡ to_le_bytes w32 long }
     ensures clean { (base : Setting) (long : ℕ) (line : Line) → IsLineOf long line → long < 2 ^ 32 → (f : Fault) → ¬ IsDatFault base start (file_with line) f }
 {}

@@ -13,7 +13,8 @@ ghost use Rattle.p8_printed.specs.Rereading.{AreOfSource, LineReadsBack};
 
 /// A line of a method is read back, but for places.
 pub fn lines_read_back()
-    ensures { (q : state.State) (us : List LineToken) (row : List Piece) (k : Kind) → IsTrue (begins_line q) → Leads q us row state_case.End → AreOfSource us → kind_of_row row ≡ Some k → LineReadsBack k }
+    ensures { (q : state.State) (us : List LineToken) (row : List Piece) (k : Kind) → IsTrue (begins_line q) → Leads q us row state_case.End →
+        AreOfSource us → kind_of_row row ≡ Some k → LineReadsBack k }
 {
     p8_expr::lexemes_are_proper();
     p8_blocks::rows_are_proper();

@@ -438,10 +438,10 @@ fn an_empty_word_is_a_file(rt: HostRuntime) {
     assert!(rt; matches!(is_empty_name_missing(rt.alloc()), Ok(true)));
 }
 
-/// Too many turns, pin 32, an option given twice, a call for help as an option, help on another word, a run by a crew, which is no
-/// command for one thread, too great a seed and none, no words, too many clocks of a run that is traced, read and shown, short code of an image, pins and clocks that there
-/// aren't, too few columns and too many, numbers of digits alone that are none of a refusal, words that these commands don't have, a cog and a clock that
-/// there aren't, too many turns of a page, a cog of a page, and clocks that end before they begin.
+/// Too many turns, pin 32, an option given twice, a call for help as an option, help on another word, a run by a crew, which is no command for one
+/// thread, too great a seed and none, no words, too many clocks of a run that is traced, read and shown, short code of an image, pins and clocks that
+/// there aren't, too few columns and too many, numbers of digits alone that are none of a refusal, words that these commands don't have, a cog and a
+/// clock that there aren't, too many turns of a page, a cog of a page, and clocks that end before they begin.
 static NO_COMMANDS: [&str; 33] = [
     "save a.binary 17 --turns 40001",
     "serial a.binary 1951 32 100",

@@ -1,6 +1,7 @@
 -- The text of a history: a line for each turn, then what the hub is in the end, then the dump
 -- (this project's profile). A past is a list of turns, the newest first.
-use Rattle.std.specs.Prelude.{ℕ, ◌+◌, ◌-◌, ◌*◌, ◌/◌, nat_eq, min, if◌then◌else◌, Bool, true, false, List, [], ◌∷◌, ◌++◌, Option, Some, None, codes, map, flat_map, length}
+use Rattle.std.specs.Prelude.{ℕ, ◌+◌, ◌-◌, ◌*◌, ◌/◌, nat_eq, min, if◌then◌else◌, Bool, true, false, List, [], ◌∷◌, ◌++◌, Option, Some, None, codes}
+use Rattle.std.specs.Prelude.{map, flat_map, length}
 use Rattle.std.specs.Fmt.{decimal}
 use Rattle.std.specs.List.{range_with_len}
 use Rattle.p8_access.specs.declared.kinds.Width.{Width}
@@ -12,7 +13,8 @@ use Rattle.p8_access.specs.declared.kinds.Test.TheVariants.{Count, PinsEqual, Pi
 use Rattle.p8_access.specs.declared.kinds.Reason.{Reason}
 use Rattle.p8_access.specs.declared.kinds.Reason.TheVariants.{Opcode, Register, Rom, Byte as NoBytecode, Deep, Stack, Under, Table, Port, Reset}
 use Rattle.p8_access.specs.declared.kinds.Access.{Access}
-use Rattle.p8_access.specs.declared.kinds.Access.TheVariants.{Begin, Load, Read, Write, CogId, CogInit, CogStop, LockNew, LockRet, LockSet, LockClr, ClkSet, PinsIn, OutSet, DirSet, Wait, Clock, Halt}
+use Rattle.p8_access.specs.declared.kinds.Access.TheVariants.{Begin, Load, Read, Write, CogId, CogInit, CogStop, LockNew, LockRet, LockSet, LockClr}
+use Rattle.p8_access.specs.declared.kinds.Access.TheVariants.{ClkSet, PinsIn, OutSet, DirSet, Wait, Clock, Halt}
 use Rattle.p8_access.specs.declared.kinds.Answer.{Answer}
 use Rattle.p8_access.specs.declared.kinds.Answer.TheVariants.{Number, Was}
 use Rattle.p8_access.specs.declared.order.Turn.{Turn}
@@ -78,10 +80,12 @@ reason_text Reset = codes "reset"
 abbrev pub access_text : Origin → Access → Answer → List ℕ
 access_text own Begin answer = codes "begin " ++ hex 4 (code_of own) ++ codes " " ++ hex 4 (parameter_of own)
 access_text own Load answer = codes "load " ++ hex 4 (code_of own)
-access_text own (Read width address) answer = codes "rd" ++ width_text width ++ codes " " ++ hex 4 address ++ codes " " ++ hex (digits_of width) (value_of answer)
+access_text own (Read width address) answer = codes "rd" ++ width_text width ++ codes " " ++ hex 4 address ++ codes " " ++
+    hex (digits_of width) (value_of answer)
 access_text own (Write width address value) answer = codes "wr" ++ width_text width ++ codes " " ++ hex 4 address ++ codes " " ++ hex (digits_of width) value
 access_text own CogId answer = codes "cogid " ++ decimal (value_of answer)
-access_text own (CogInit target origin) answer = codes "coginit " ++ number_text answer ++ codes " " ++ kind_text origin ++ codes " " ++ hex 4 (code_of origin) ++ codes " " ++ hex 4 (parameter_of origin)
+access_text own (CogInit target origin) answer = codes "coginit " ++ number_text answer ++ codes " " ++ kind_text origin ++ codes " " ++
+    hex 4 (code_of origin) ++ codes " " ++ hex 4 (parameter_of origin)
 access_text own (CogStop cog) answer = codes "cogstop " ++ decimal cog
 access_text own LockNew answer = codes "locknew " ++ number_text answer
 access_text own (LockRet lock) answer = codes "lockret " ++ decimal lock
@@ -98,7 +102,8 @@ access_text own (Halt reason) answer = codes "halt " ++ reason_text reason
 -- the line of a turn after a past: its clock, its cog, its access
 abbrev pub line_of : World → List Turn → Turn → List ℕ
 line_of w past turn =
-    decimal turn.key.clock ++ codes " " ++ decimal turn.key.cog ++ codes " " ++ access_text (origin_of (cog_state w past turn.key.cog)) turn.access turn.answer ++ 10 ∷ []
+    decimal turn.key.clock ++ codes " " ++ decimal turn.key.cog ++ codes " " ++
+    access_text (origin_of (cog_state w past turn.key.cog)) turn.access turn.answer ++ 10 ∷ []
 
 -- the lines of a past, the oldest first
 abbrev pub lines_of : World → List Turn → List ℕ

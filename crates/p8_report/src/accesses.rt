@@ -6,7 +6,8 @@ ghost use Rattle.p8_access.specs.declared.order.Turn.{Turn};
 ghost use Rattle.p8_access.specs.Worlds.{World};
 ghost use Rattle.p8_access.specs.Hub.{cog_state, origin_of};
 ghost use Rattle.p8_report.specs.Origins.{AreOrigins};
-ghost use Rattle.p8_report.specs.Text.{number_text, previous_text, width_text, digits_of, code_of, parameter_of, kind_text, test_text, reason_text, access_text};
+ghost use Rattle.p8_report.specs.Text.{number_text, previous_text, width_text, digits_of, code_of, parameter_of, kind_text, test_text, reason_text};
+ghost use Rattle.p8_report.specs.Text.{access_text};
 
 use crate::line::{
     PAGE, write_byte, write_decimal, write_long, write_number, write_text, write_word,
@@ -38,7 +39,8 @@ fn write_move(
 ) -> usize
     requires { at + length word.now + 18 ≤ 4096 }
     ensures end { result ≤ at + length word.now + 18 }
-    ensures text { take result page.new ≡ take at page.old ++ (word.now ++ width_text width ++ codes " " ++ hex 4 address ++ codes " " ++ hex (digits_of width) value) }
+    ensures text { take result page.new ≡ take at page.old ++
+        (word.now ++ width_text width ++ codes " " ++ hex 4 address ++ codes " " ++ hex (digits_of width) value) }
 {
     let at = write_text(page, at, word);
     match width {
@@ -86,7 +88,9 @@ fn write_answered(page: &mut [u8; PAGE], at: usize, word: &[u8], answer: Answer)
 fn write_start(page: &mut [u8; PAGE], at: usize, origin: &Origin, answer: Answer) -> usize
     requires { at + 27 ≤ 4096 }
     ensures end { result ≤ at + 27 }
-    ensures text { take result page.new ≡ take at page.old ++ (codes "coginit " ++ number_text answer ++ codes " " ++ kind_text origin.now ++ codes " " ++ hex 4 (code_of origin.now) ++ codes " " ++ hex 4 (parameter_of origin.now)) }
+    ensures text { take result page.new ≡ take at page.old ++
+        (codes "coginit " ++ number_text answer ++ codes " " ++ kind_text origin.now ++ codes " " ++ hex 4 (code_of origin.now) ++ codes " " ++
+        hex 4 (parameter_of origin.now)) }
 {
     let at = write_answered(page, at, b"coginit ", answer);
     let at = write_text(page, at, b" ");
@@ -185,7 +189,8 @@ pub fn write_access(
 ) -> usize
     requires { at + 27 ≤ 4096 }
     ensures end { result ≤ at + 27 }
-    ensures text { (w : World) (past : List Turn) → AreOrigins w past origins.now → take result page.new ≡ take at page.old ++ access_text (origin_of (cog_state w past cog)) access.now answer.now }
+    ensures text { (w : World) (past : List Turn) → AreOrigins w past origins.now →
+        take result page.new ≡ take at page.old ++ access_text (origin_of (cog_state w past cog)) access.now answer.now }
 {
     match *access {
         Access::Begin => write_origin(page, at, b"begin ", origins.of_cog(cog)),

@@ -17,7 +17,8 @@ use p8_words::NoMemory;
 /// Appends the bytes from an address on, each after a space.
 fn push_bytes(out: &mut Vec<u8>, hub: &Hub, address: u16, count: u16) -> Result<(), NoMemory>
     requires { address + count ≤ 32768 }
-    ensures { OnOk result ((w : World) (past : List Turn) → IsHub w past hub.now → out.new.items ≡ out.old.items ++ flat_map (λ i. 32 ∷ hex 2 (byte_at w past (address + i))) (range_with_len 0 count)) }
+    ensures { OnOk result ((w : World) (past : List Turn) → IsHub w past hub.now →
+        out.new.items ≡ out.old.items ++ flat_map (λ i. 32 ∷ hex 2 (byte_at w past (address + i))) (range_with_len 0 count)) }
 {
     for i in 0..count {
         push_byte(out, b" ", hub.byte(address + i) as u32)?;

@@ -20,7 +20,9 @@ use std::alloc::Global;
 fn write_turn(page: &mut [u8; PAGE], at: usize, origins: &Origins, turn: &Turn) -> usize
     requires { at + 44 ≤ 4096 }
     ensures end { result ≤ at + 44 }
-    ensures text { (w : World) (past : List Turn) → AreOrigins w past origins.now → take result page.new ≡ take at page.old ++ (codes " " ++ decimal turn.now.key.cog ++ codes " " ++ access_text (origin_of (cog_state w past turn.now.key.cog)) turn.now.access turn.now.answer ++ 10 ∷ []) }
+    ensures text { (w : World) (past : List Turn) → AreOrigins w past origins.now →
+        take result page.new ≡ take at page.old ++ (codes " " ++ decimal turn.now.key.cog ++ codes " " ++
+        access_text (origin_of (cog_state w past turn.now.key.cog)) turn.now.access turn.now.answer ++ 10 ∷ []) }
 {
     let at = write_text(page, at, b" ");
     let at = write_number(page, at, turn.key.cog);
@@ -73,7 +75,8 @@ fn add_line(
 ) -> Result<usize, NoMemory>
     requires { at ≤ 4096 }
     ensures room { IfOk result (λ end. end ≤ 4096) }
-    ensures text { (w : World) (past : List Turn) → AreOrigins w past origins.now → IfOk result (λ end. out.new.items ++ take end page.new ≡ (out.old.items ++ take at page.old) ++ line_of w past turn.now) }
+    ensures text { (w : World) (past : List Turn) → AreOrigins w past origins.now →
+        IfOk result (λ end. out.new.items ++ take end page.new ≡ (out.old.items ++ take at page.old) ++ line_of w past turn.now) }
 {
     let begin = turned(out, page, at)?;
     Ok(write_line(page, begin, front, origins, turn))

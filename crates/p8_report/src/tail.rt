@@ -46,7 +46,8 @@ fn lock_letter(taken: bool, set: bool) -> u8
 
 /// Appends the letters of the eight locks.
 fn push_lock_letters(out: &mut Vec<u8>, hub: &Hub) -> Result<(), NoMemory>
-    ensures { OnOk result ((w : World) (past : List Turn) → IsHub w past hub.now → out.new.items ≡ out.old.items ++ map (λ lock. lock_glyph (is_taken past lock) (is_set past lock)) locks) }
+    ensures { OnOk result ((w : World) (past : List Turn) → IsHub w past hub.now →
+        out.new.items ≡ out.old.items ++ map (λ lock. lock_glyph (is_taken past lock) (is_set past lock)) locks) }
 {
     for lock in 0..8 {
         let (taken, set) = hub.lock(lock);
@@ -113,7 +114,8 @@ fn push_cogs(out: &mut Vec<u8>, hub: &Hub) -> Result<(), NoMemory>
 /// Appends what comes after the lines of `count` turns, where there were to be at most `limit`: why the
 /// history ended, the locks, the pins and the cogs.
 pub fn push_tail(out: &mut Vec<u8>, count: u64, limit: u64, hub: &Hub) -> Result<(), NoMemory>
-    ensures { OnOk result ((w : World) (past : List Turn) → w.turns ≡ limit → length past ≡ count → IsHub w past hub.now → out.new.items ≡ out.old.items ++ ended_text w past ++ locks_text past ++ pins_text past ++ flat_map (cog_text w past) cogs) }
+    ensures { OnOk result ((w : World) (past : List Turn) → w.turns ≡ limit → length past ≡ count → IsHub w past hub.now →
+        out.new.items ≡ out.old.items ++ ended_text w past ++ locks_text past ++ pins_text past ++ flat_map (cog_text w past) cogs) }
 {
     push_ended(out, count, limit)?;
     push_locks(out, hub)?;

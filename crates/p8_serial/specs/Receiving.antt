@@ -65,5 +65,7 @@ good_to_come whole bits starts = length (filter (is_good whole bits) starts)
 pub record HasReceived (whole : ℕ → Bool) (pin bits end : ℕ) (ahead : Ahead) (text : List ℕ) (count : ℕ) : Type 0 where
   pub after : ℕ
   pub at : IsReceiving whole pin after ahead
-  pub lines : text ++ lines_to_come whole bits (frames bits end after (falls_in pin ahead)) ≡ lines_to_come whole bits (frames bits end 0 (falling_edges whole end))
-  pub good : count + good_to_come whole bits (frames bits end after (falls_in pin ahead)) ≡ good_to_come whole bits (frames bits end 0 (falling_edges whole end))
+  pub lines : text ++ lines_to_come whole bits (frames bits end after (falls_in pin ahead)) ≡
+      lines_to_come whole bits (frames bits end 0 (falling_edges whole end))
+  pub good : count + good_to_come whole bits (frames bits end after (falls_in pin ahead)) ≡
+      good_to_come whole bits (frames bits end 0 (falling_edges whole end))

@@ -79,7 +79,8 @@ fn receive_byte(cursor: &mut Cursor, pin: u8, bits: u32, start: u64) -> u8
 fn receive(cursor: &mut Cursor, pin: u8, bits: u32, end: u64) -> Option<Frame>
     requires pin { pin < 32 }
     requires rate { IsRate bits }
-    ensures frame { (whole : ℕ → Bool) (after : ℕ) → IsReceiving whole pin after cursor.old → MatchOption result (frames bits end after (falls_in pin cursor.old) ≡ []) (λ frame. IsNext whole pin bits end after cursor.old frame cursor.new) }
+    ensures frame { (whole : ℕ → Bool) (after : ℕ) → IsReceiving whole pin after cursor.old →
+        MatchOption result (frames bits end after (falls_in pin cursor.old) ≡ []) (λ frame. IsNext whole pin bits end after cursor.old frame cursor.new) }
     ensures shorter { IfSome result (λ frame. length cursor.new.changes < length cursor.old.changes) }
 {
     match next_fall(cursor, pin) {

@@ -10,6 +10,8 @@ ghost use Rattle.p8_serial.specs.Typed.{sent, typed_text};
 /// What sends bytes is a good pin script; and on a pin that no cog drives, where the run goes on past the last of them, exactly
 /// these bytes are received, in order, each at its place.
 pub fn typed_is_read()
-    ensures script { (bytes : List ℕ) (pin bits start : ℕ) → CanBeSent bytes pin bits start → IsReadAs (typed_text bytes pin bits start) (sent bytes pin bits start) }
-    ensures read { (w : World) (past : List Turn) (bytes : List ℕ) (pin bits start : ℕ) → CanBeSent bytes pin bits start → Hears w past bytes pin bits start → serial_of w past pin bits ≡ received_text bytes bits start }
+    ensures script { (bytes : List ℕ) (pin bits start : ℕ) → CanBeSent bytes pin bits start →
+        IsReadAs (typed_text bytes pin bits start) (sent bytes pin bits start) }
+    ensures read { (w : World) (past : List Turn) (bytes : List ℕ) (pin bits start : ℕ) → CanBeSent bytes pin bits start →
+        Hears w past bytes pin bits start → serial_of w past pin bits ≡ received_text bytes bits start }
 {}

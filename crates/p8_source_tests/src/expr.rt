@@ -1,7 +1,7 @@
 // Worked expressions, read with ample memory.
 use p8_expr::{GREATEST_HEIGHT, parse_expr, parse_expr_in};
+use p8_fold::{Consts, put_text};
 use p8_grammar::Setting;
-use p8_kinds::{Consts, put_text};
 use p8_lexer::lex;
 use p8_tree::{Expr, ExprKind, Fault};
 use p8_words::Fail;

@@ -18,7 +18,8 @@ fn number(place: Place, value: u32) -> Expr
 
 // `a := i`
 fn assignment(alloc: Global, at: Place) -> Result<Stmt, AllocError>
-    ensures { IfOk result (λ s. statement_of s ≡ statement at (Do (node at (Assign (Named (65 ∷ []) no_index at) None (node at (Var (Named (73 ∷ []) no_index at))))))) }
+    ensures { IfOk result (λ s. statement_of s ≡ statement at
+        (Do (node at (Assign (Named (65 ∷ []) no_index at) None (node at (Var (Named (73 ∷ []) no_index at))))))) }
 {
     let name = Text::copy_of(alloc, b"A")?;
     let counter = Text::copy_of(alloc, b"I")?;
@@ -38,7 +39,9 @@ fn assignment(alloc: Global, at: Place) -> Result<Stmt, AllocError>
 
 // `repeat i from 0 to 2` and, as its body, `a := i`
 fn counting_loop(alloc: Global, at: Place) -> Result<Stmt, AllocError>
-    ensures { IfOk result (λ s. statement_of s ≡ statement at (Repeat (From (73 ∷ []) (node at (Number 0)) (node at (Number 2)) None at) (no_statements ▹ statement at (Do (node at (Assign (Named (65 ∷ []) no_index at) None (node at (Var (Named (73 ∷ []) no_index at))))))))) }
+    ensures { IfOk result (λ s. statement_of s ≡ statement at
+        (Repeat (From (73 ∷ []) (node at (Number 0)) (node at (Number 2)) None at)
+        (no_statements ▹ statement at (Do (node at (Assign (Named (65 ∷ []) no_index at) None (node at (Var (Named (73 ∷ []) no_index at))))))))) }
 {
     let mut body = Vec::new(alloc);
     body.push(assignment(alloc, at)?)?;

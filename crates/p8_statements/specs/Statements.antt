@@ -70,7 +70,8 @@ behind_value r low xs row further last =
 
 -- the tests e, e..e: after these tests, and after the first value of a range
 abbrev pub tests_after : Items → Option Tree → List Piece → Option Items
-tests_after xs low (tree e p ∷ word w q ∷ row) = behind_value (role_of w) low (xs ▸ test low e) row (tests_after (xs ▸ test low e) None row) (tests_after xs (Some e) row)
+tests_after xs low (tree e p ∷ word w q ∷ row) = behind_value (role_of w) low (xs ▸ test low e) row (tests_after (xs ▸ test low e) None row)
+    (tests_after xs (Some e) row)
 tests_after xs low _ = None
 
 -- the colon after OTHER

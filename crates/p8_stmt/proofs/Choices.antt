@@ -16,7 +16,7 @@ use Rattle.p8_bytecode.specs.Table.{rows, operands_of}
 use Rattle.p8_kinds.specs.declared.name_kinds.NameKind.{NameKind}
 use Rattle.p8_kinds.specs.declared.name_kinds.NameKind.TheVariants as kinds
 use Rattle.p8_words.specs.Operators.{or_zero}
-use Rattle.p8_kinds.specs.Values as constants
+use Rattle.p8_fold.specs.Values as constants
 use Rattle.p8_gen.specs.Names.{Names, widened}
 use Rattle.p8_gen.specs.Methods.{bytes_of, method_code}
 use Rattle.p8_gen.specs.Pieces.{Written, Piece, empty, from_place, nothing, one, ◌⨾◌, from_start, up_to_end, up_to_jumps, of_statement, byte, text, told, is_near, offset, jump_by, jump, end_of_jump, jumping, end_of_jumping}

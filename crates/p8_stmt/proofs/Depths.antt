@@ -19,7 +19,7 @@ use Rattle.p8_tree.specs.Expressions.{Tree, node, Trees, no_trees, ◌▷◌, It
 use Rattle.p8_tree.specs.Statements.{If, Case, Arm, arm, Arms, no_arms, ◌⊳◌}
 use Rattle.p8_tree.specs.Views.{tree_of, form_of, call_of, trees_of, trees_after, item_of, items_of, items_after, course_of, action_of, arm_of, arms_of, statements_of}
 use Rattle.p8_tree.specs.Bridges.{boxed_index, other_body, strings_is, built_is, look_is, if_is, case_is, repeat_is, trees_of-push, items_of-push, statements_of-push, arms_of-push}
-use Rattle.p8_kinds.proofs.ValueRows.{call_form}
+use Rattle.p8_fold.proofs.ValueRows.{call_form}
 use Rattle.p8_gen.specs.declared.expressions.BuiltForm.TheVariants as built_form
 use Rattle.p8_gen.specs.Names.{Names}
 use Rattle.p8_gen.specs.Expressions.{starts_method}

@@ -7,7 +7,7 @@ use Rattle.p8_tree.specs.Sources.{Declared}
 use Rattle.p8_tree.specs.Views.{declared_of, tree_of}
 use Rattle.p8_bytecode.specs.declared.op.Op.{Op}
 use Rattle.p8_bytecode.specs.Spelling.{spelled}
-use Rattle.p8_kinds.specs.Meanings.{Setting}
+use Rattle.p8_fold.specs.Meanings.{Setting}
 use Rattle.p8_stmt.specs.Cutting.{cut_longs}
 use Rattle.p8_stmt.specs.Methods.{count_in, longs_in}
 use Rattle.p8_stmt.specs.Spelled.{begins_of}

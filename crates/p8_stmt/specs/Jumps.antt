@@ -17,7 +17,8 @@ Fits names ss wide = (method_code (widened names wide) ss).too_far ≡ []
 pub record IsLeast (names : Names) (ss : Statements) (widths : List Bool) : Type 0 where
   pub count : length widths ≡ (method_code names ss).jumps
   pub fits : Fits names ss (wide_in widths)
-  pub least : (other : List Bool) → length other ≡ length widths → Fits names ss (wide_in other) → (k : ℕ) → slice_get widths k ≡ Some true → slice_get other k ≡ Some true
+  pub least : (other : List Bool) → length other ≡ length widths → Fits names ss (wide_in other) → (k : ℕ) → slice_get widths k ≡ Some true →
+      slice_get other k ≡ Some true
 
 -- this is the short code of a method with this body
 pub record IsShortCode (names : Names) (m : MethodTree) (ss : Statements) (code : MethodCode) : Type 0 where

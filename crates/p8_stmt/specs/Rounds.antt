@@ -19,4 +19,5 @@ after_round names ss widths = widened_from widths 0 (method_code (widened names 
 -- a choice all of whose wide jumps every choice has by which each offset fits
 pub record IsBelowAll (names : Names) (ss : Statements) (widths : List Bool) : Type 0 where
   pub count : length widths ≡ (method_code names ss).jumps
-  pub least : (other : List Bool) → length other ≡ length widths → Fits names ss (wide_in other) → (k : ℕ) → slice_get widths k ≡ Some true → slice_get other k ≡ Some true
+  pub least : (other : List Bool) → length other ≡ length widths → Fits names ss (wide_in other) → (k : ℕ) → slice_get widths k ≡ Some true →
+      slice_get other k ≡ Some true

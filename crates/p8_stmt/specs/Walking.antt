@@ -1,7 +1,8 @@
 -- Pieces of statements as the code cuts them: internal.
 use Rattle.std.specs.Prelude.{ℕ, Bool, true, false, not, if◌then◌else◌, List, Option, Some, None}
 use Rattle.p8_tree.specs.Expressions.{Tree}
-use Rattle.p8_tree.specs.Statements.{Action, If, Case, nothing_else, otherwise, Course, Forever, Count, Before, After, From, Arm, arm, Arms, no_arms, ◌⊳◌, Statements}
+use Rattle.p8_tree.specs.Statements.{Action, If, Case, nothing_else, otherwise, Course, Forever, Count, Before, After, From, Arm, arm, Arms, no_arms}
+use Rattle.p8_tree.specs.Statements.{◌⊳◌, Statements}
 use Rattle.p8_gen.specs.Names.{Names}
 use Rattle.p8_gen.specs.Pieces.{Piece, nothing, one, ◌⨾◌, from_start, up_to_end, up_to_jumps, byte, jump, jumping}
 use Rattle.p8_gen.specs.Variables.{home_of, plain_op, Pop}
@@ -40,7 +41,8 @@ arm_piece names loop last (arm items negated ss) next =
 -- the arms of an IF and the body of its ELSE, with which the last arm jumps to the end, too
 abbrev pub branches : Names → Option Loop → Action → (end : ℕ) → Piece
 branches names loop (If arms nothing_else) end = chain names loop (jump names.wide names.statement 0x04 end) nothing arms
-branches names loop (If arms (otherwise ss)) end = chain names loop (jump names.wide names.statement 0x04 end) (jump names.wide names.statement 0x04 end) arms ⨾ body names loop ss
+branches names loop (If arms (otherwise ss)) end = chain names loop (jump names.wide names.statement 0x04 end)
+    (jump names.wide names.statement 0x04 end) arms ⨾ body names loop ss
 branches names loop _ end = nothing
 
 -- ---- CASE

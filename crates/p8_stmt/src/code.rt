@@ -86,9 +86,13 @@ pub fn method_code_with(
     widths: &[bool],
 ) -> Result<MethodCode, Fail<CodeFault>>
     requires { AreResolved (names_from kinds.now number tables.now method.now.place) (statements_of body.now) }
-    ensures code { IfOk result (IsCodeOf (widened (names_from kinds.now number tables.now method.now.place) (wide_in widths.now)) (rebodied (method_of method.now) (statements_of body.now))) }
-    ensures clean { OnOk result ((f : Fault) → ¬ IsMethodFault (widened (names_from kinds.now number tables.now method.now.place) (wide_in widths.now)) (rebodied (method_of method.now) (statements_of body.now)) f) }
-    ensures refused { IfErr result (IfRefused (IsFirstFault (IsMethodFault (widened (names_from kinds.now number tables.now method.now.place) (wide_in widths.now)) (rebodied (method_of method.now) (statements_of body.now))))) }
+    ensures code { IfOk result (IsCodeOf (widened (names_from kinds.now number tables.now method.now.place) (wide_in widths.now))
+        (rebodied (method_of method.now) (statements_of body.now))) }
+    ensures clean { OnOk result ((f : Fault) → ¬ IsMethodFault
+        (widened (names_from kinds.now number tables.now method.now.place) (wide_in widths.now)) (rebodied (method_of method.now) (statements_of body.now)) f) }
+    ensures refused { IfErr result (IfRefused (IsFirstFault
+        (IsMethodFault (widened (names_from kinds.now number tables.now method.now.place) (wide_in widths.now))
+        (rebodied (method_of method.now) (statements_of body.now))))) }
 {
     let coder = Coder {
         kinds,
@@ -136,7 +140,8 @@ pub fn method_ways(
     body: &[Stmt],
     widths: &[bool],
 ) -> Result<List<Way>, NoMemory>
-    ensures { IfOk result (λ ways. map way_of ways ≡ (methods.method_code (widened (names_from kinds.now number tables.now method.now.place) (wide_in widths.now)) (statements_of body.now)).ways) }
+    ensures { IfOk result (λ ways. map way_of ways ≡
+        (methods.method_code (widened (names_from kinds.now number tables.now method.now.place) (wide_in widths.now)) (statements_of body.now)).ways) }
 {
     let coder = Coder {
         kinds,

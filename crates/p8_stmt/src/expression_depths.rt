@@ -3,8 +3,9 @@ ghost use Rattle.std.specs.Prelude.{◌≡◌, ℕ, ◌+◌, max};
 ghost use Rattle.p8_tree.specs.Views.{tree_of, variable_of, call_of, trees_of, items_of, item_of};
 ghost use Rattle.p8_tree.specs.Bridges.{boxed_index};
 ghost use Rattle.p8_tree.specs.Expressions.{no_items, ◌▸◌};
-ghost use Rattle.p8_kinds.specs.Verdicts.{boxed_bits};
-ghost use Rattle.p8_gen.specs.Depths.{over, held, held_by_naming, held_by_index, held_by_bits, held_by_trees, held_by_items, held_by_built, held_by_arguments, arguments_of, held_alone};
+ghost use Rattle.p8_fold.specs.Verdicts.{boxed_bits};
+ghost use Rattle.p8_gen.specs.Depths.{over, held, held_by_naming, held_by_index, held_by_bits, held_by_trees, held_by_items, held_by_built};
+ghost use Rattle.p8_gen.specs.Depths.{held_by_arguments, arguments_of, held_alone};
 ghost use Rattle.p8_gen.specs.Scopes.{names_of};
 ghost use Rattle.p8_stmt.specs.Cutting.{cut, held_by_call, held_by_start};
 

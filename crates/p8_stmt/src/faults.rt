@@ -13,7 +13,8 @@ pub(crate) fn first_fault(
     name: Place,
     too_large: bool,
 ) -> Result<Option<Fault>, AllocError>
-    ensures { IfOk result (λ first. MatchOption first (faults_of too_far.now name too_large ≡ []) (IsFirstFault (Contains (faults_of too_far.now name too_large)))) }
+    ensures { IfOk result (λ first. MatchOption first (faults_of too_far.now name too_large ≡ [])
+        (IsFirstFault (Contains (faults_of too_far.now name too_large)))) }
 {
     let faults = faults_of(alloc, too_far, name, too_large)?;
     Ok(Fault::first_of(faults.as_slice()))

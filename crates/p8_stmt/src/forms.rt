@@ -99,7 +99,8 @@ impl Context<'_> {
         behind_value: u8,
         out: &mut Writer,
     ) -> Result<(), AllocError>
-        ensures { (w : Written) → Stands out.old w → OnOk result (Stands out.new (with_value (names_at self.now) (option_map tree_of value.now) alone behind_value w)) }
+        ensures { (w : Written) → Stands out.old w →
+            OnOk result (Stands out.new (with_value (names_at self.now) (option_map tree_of value.now) alone behind_value w)) }
     {
         match value {
             None => out.byte(alone),
@@ -239,7 +240,9 @@ impl Context<'_> {
         start: u32,
         out: &mut Writer,
     ) -> Result<(), AllocError>
-        ensures { (w : Written) → Stands out.old w → OnOk result (Stands out.new (step_piece (names_at self.now) name.now (tree_of first.now) (tree_of last.now) (option_map tree_of step.now) start w)) }
+        ensures { (w : Written) → Stands out.old w →
+            OnOk result (Stands out.new (step_piece (names_at self.now) name.now (tree_of first.now) (tree_of last.now)
+            (option_map tree_of step.now) start w)) }
     {
         self.step_value(step, out)?;
         self.coder.value(first, out)?;

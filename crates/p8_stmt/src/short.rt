@@ -30,7 +30,8 @@ pub fn short_code(
     body: &[Stmt],
 ) -> Result<MethodCode, NoMemory>
     requires resolved { AreResolved (names_from kinds.now number tables.now method.now.place) (statements_of body.now) }
-    requires accepted { (f : Fault) → ¬ IsMethodFault (names_from kinds.now number tables.now method.now.place) (rebodied (method_of method.now) (statements_of body.now)) f }
+    requires accepted { (f : Fault) → ¬ IsMethodFault (names_from kinds.now number tables.now method.now.place)
+        (rebodied (method_of method.now) (statements_of body.now)) f }
     ensures { IfOk result (IsShortCode (names_from kinds.now number tables.now method.now.place) (method_of method.now) (statements_of body.now)) }
 {
     let widths = least_widths(alloc, kinds, tables, method, number, body)?;

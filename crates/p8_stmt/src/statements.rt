@@ -16,7 +16,8 @@ impl Context<'_> {
     /// Appends the code of statements, one after the other.
     #[cycle(statements)]
     pub fn body(&self, statements: &[Stmt], out: &mut Writer) -> Result<(), AllocError>
-        ensures { (w : Written) → Stands out.old w → OnOk result (Stands out.new (body (names_at self.now) (loop_at self.now) (statements_of statements.now) w)) }
+        ensures { (w : Written) → Stands out.old w →
+            OnOk result (Stands out.new (body (names_at self.now) (loop_at self.now) (statements_of statements.now) w)) }
     {
         for statement in statements {
             self.statement(statement, out)?;
@@ -43,7 +44,8 @@ impl Context<'_> {
     // Appends the code of the statement that the context is at.
     #[cycle(statements)]
     fn action(&self, statement: &Stmt, out: &mut Writer) -> Result<(), AllocError>
-        ensures { (w : Written) → Stands out.old w → OnOk result (Stands out.new (code_of (names_at self.now) (loop_at self.now) (action_of statement.now.kind) w)) }
+        ensures { (w : Written) → Stands out.old w →
+            OnOk result (Stands out.new (code_of (names_at self.now) (loop_at self.now) (action_of statement.now.kind) w)) }
     {
         match &statement.kind {
             StmtKind::Do(expr) => self.coder.alone(expr, out),
@@ -60,7 +62,8 @@ impl Context<'_> {
     // Appends an IF.
     #[cycle(statements)]
     fn chain(&self, statement: &Stmt, out: &mut Writer) -> Result<(), AllocError>
-        ensures { (w : Written) → Stands out.old w → OnOk result (Stands out.new (up_to_end (branches (names_at self.now) (loop_at self.now) (action_of statement.now.kind)) w)) }
+        ensures { (w : Written) → Stands out.old w →
+            OnOk result (Stands out.new (up_to_end (branches (names_at self.now) (loop_at self.now) (action_of statement.now.kind)) w)) }
     {
         let mut counter = out.counter();
         self.branches(0, statement, &mut counter)?;
@@ -74,7 +77,8 @@ impl Context<'_> {
     // Appends the arms of an IF, which jump to a place, and the body of its ELSE. Of another statement nothing is known.
     #[cycle(statements)]
     fn branches(&self, end: u32, statement: &Stmt, out: &mut Writer) -> Result<(), AllocError>
-        ensures { (w : Written) → Stands out.old w → OnOk result (Stands out.new (branches (names_at self.now) (loop_at self.now) (action_of statement.now.kind) end w)) }
+        ensures { (w : Written) → Stands out.old w →
+            OnOk result (Stands out.new (branches (names_at self.now) (loop_at self.now) (action_of statement.now.kind) end w)) }
     {
         match &statement.kind {
             StmtKind::If(arms, rest) => match rest {
@@ -97,7 +101,9 @@ impl Context<'_> {
         arms: &[Arm],
         out: &mut Writer,
     ) -> Result<(), AllocError>
-        ensures { (w : Written) → Stands out.old w → OnOk result (Stands out.new (chain (names_at self.now) (loop_at self.now) (jump (names_at self.now).wide (names_at self.now).statement 0x04 end) (leap (names_at self.now) last_jumps end) (arms_of arms.now) w)) }
+        ensures { (w : Written) → Stands out.old w →
+            OnOk result (Stands out.new (chain (names_at self.now) (loop_at self.now)
+            (jump (names_at self.now).wide (names_at self.now).statement 0x04 end) (leap (names_at self.now) last_jumps end) (arms_of arms.now) w)) }
     {
         for (index, arm) in arms.iter().enumerate() {
             let jumps = jumps_away(last_jumps, index, arms.len());
@@ -109,7 +115,9 @@ impl Context<'_> {
     // Appends an arm of an IF, which jumps to a place or not.
     #[cycle(statements)]
     fn arm(&self, jumps: bool, end: u32, arm: &Arm, out: &mut Writer) -> Result<(), AllocError>
-        ensures { (w : Written) → Stands out.old w → OnOk result (Stands out.new (up_to_end (arm_piece (names_at self.now) (loop_at self.now) (leap (names_at self.now) jumps end) (arm_of arm.now)) w)) }
+        ensures { (w : Written) → Stands out.old w →
+            OnOk result (Stands out.new (up_to_end (arm_piece (names_at self.now) (loop_at self.now) (leap (names_at self.now) jumps end)
+            (arm_of arm.now)) w)) }
     {
         let mut counter = out.counter();
         self.arm_to(jumps, end, 0, arm, &mut counter)?;
@@ -130,7 +138,8 @@ impl Context<'_> {
         arm: &Arm,
         out: &mut Writer,
     ) -> Result<(), AllocError>
-        ensures { (w : Written) → Stands out.old w → OnOk result (Stands out.new (arm_piece (names_at self.now) (loop_at self.now) (leap (names_at self.now) jumps end) (arm_of arm.now) next w)) }
+        ensures { (w : Written) → Stands out.old w →
+            OnOk result (Stands out.new (arm_piece (names_at self.now) (loop_at self.now) (leap (names_at self.now) jumps end) (arm_of arm.now) next w)) }
     {
         self.test_of(arm.tests.as_slice(), out)?;
         self.jump(zero_jump(arm.negated), next, out)?;
@@ -141,7 +150,8 @@ impl Context<'_> {
     // Appends a CASE: its tests and the body of OTHER, and then the bodies of its arms.
     #[cycle(statements)]
     fn case(&self, statement: &Stmt, out: &mut Writer) -> Result<(), AllocError>
-        ensures { (w : Written) → Stands out.old w → OnOk result (Stands out.new (case_piece (names_at self.now) (loop_at self.now) (action_of statement.now.kind) w)) }
+        ensures { (w : Written) → Stands out.old w →
+            OnOk result (Stands out.new (case_piece (names_at self.now) (loop_at self.now) (action_of statement.now.kind) w)) }
     {
         let mut counter = out.counter();
         self.choices(0, 0, 0, statement, &mut counter)?;
@@ -167,7 +177,8 @@ impl Context<'_> {
         statement: &Stmt,
         out: &mut Writer,
     ) -> Result<(), AllocError>
-        ensures { (w : Written) → Stands out.old w → OnOk result (Stands out.new (choices (names_at self.now) (loop_at self.now) (action_of statement.now.kind) first before end w)) }
+        ensures { (w : Written) → Stands out.old w →
+            OnOk result (Stands out.new (choices (names_at self.now) (loop_at self.now) (action_of statement.now.kind) first before end w)) }
     {
         match &statement.kind {
             StmtKind::Case(value, arms, rest) => {
@@ -189,7 +200,8 @@ impl Context<'_> {
     // Appends the bodies of a CASE, which jump to a place. Of another statement nothing is known.
     #[cycle(statements)]
     fn bodies(&self, end: u32, statement: &Stmt, out: &mut Writer) -> Result<(), AllocError>
-        ensures { (w : Written) → Stands out.old w → OnOk result (Stands out.new (bodies (names_at self.now) (loop_at self.now) (action_of statement.now.kind) end w)) }
+        ensures { (w : Written) → Stands out.old w →
+            OnOk result (Stands out.new (bodies (names_at self.now) (loop_at self.now) (action_of statement.now.kind) end w)) }
     {
         match &statement.kind {
             StmtKind::Case(_, arms, _) => self.case_bodies(end, arms, out),
@@ -207,7 +219,8 @@ impl Context<'_> {
         arms: &[Arm],
         out: &mut Writer,
     ) -> Result<(), AllocError>
-        ensures { (w : Written) → Stands out.old w → OnOk result (Stands out.new (all_tests (names_at self.now) (loop_at self.now) first before (arms_of arms.now) w)) }
+        ensures { (w : Written) → Stands out.old w →
+            OnOk result (Stands out.new (all_tests (names_at self.now) (loop_at self.now) first before (arms_of arms.now) w)) }
     {
         let mut counter = out.counter();
         self.tests_of_arms(arms, &mut counter)?;
@@ -227,7 +240,8 @@ impl Context<'_> {
         arms: &[Arm],
         out: &mut Writer,
     ) -> Result<(), AllocError>
-        ensures { (w : Written) → Stands out.old w → OnOk result (Stands out.new (all_tests (names_at self.now) (loop_at self.now) first before (arms_of arms.now) w)) }
+        ensures { (w : Written) → Stands out.old w →
+            OnOk result (Stands out.new (all_tests (names_at self.now) (loop_at self.now) first before (arms_of arms.now) w)) }
     {
         let mut bodies = Writer::counter_from(first, before);
         for arm in arms {
@@ -240,7 +254,8 @@ impl Context<'_> {
     // Appends the bodies of a CASE, which jump to a place.
     #[cycle(statements)]
     fn case_bodies(&self, end: u32, arms: &[Arm], out: &mut Writer) -> Result<(), AllocError>
-        ensures { (w : Written) → Stands out.old w → OnOk result (Stands out.new (case_bodies (names_at self.now) (loop_at self.now) end (arms_of arms.now) w)) }
+        ensures { (w : Written) → Stands out.old w →
+            OnOk result (Stands out.new (case_bodies (names_at self.now) (loop_at self.now) end (arms_of arms.now) w)) }
     {
         for arm in arms {
             self.case_body(end, arm, out)?;
@@ -261,7 +276,8 @@ impl Context<'_> {
     // Appends a REPEAT.
     #[cycle(statements)]
     fn repeat(&self, course: &Loop, body: &[Stmt], out: &mut Writer) -> Result<(), AllocError>
-        ensures { (w : Written) → Stands out.old w → OnOk result (Stands out.new (up_to_end (loop_piece (names_at self.now) (course_of course.now) (statements_of body.now)) w)) }
+        ensures { (w : Written) → Stands out.old w →
+            OnOk result (Stands out.new (up_to_end (loop_piece (names_at self.now) (course_of course.now) (statements_of body.now)) w)) }
     {
         let mut counter = out.counter();
         self.repeat_to(course, 0, body, &mut counter)?;
@@ -281,7 +297,8 @@ impl Context<'_> {
         body: &[Stmt],
         out: &mut Writer,
     ) -> Result<(), AllocError>
-        ensures { (w : Written) → Stands out.old w → OnOk result (Stands out.new (loop_piece (names_at self.now) (course_of course.now) (statements_of body.now) end w)) }
+        ensures { (w : Written) → Stands out.old w →
+            OnOk result (Stands out.new (loop_piece (names_at self.now) (course_of course.now) (statements_of body.now) end w)) }
     {
         self.head(course, end, out)?;
         let start = out.end;
@@ -300,7 +317,8 @@ impl Context<'_> {
         body: &[Stmt],
         out: &mut Writer,
     ) -> Result<(), AllocError>
-        ensures { (w : Written) → Stands out.old w → OnOk result (Stands out.new (looped (names_at self.now) (course_of course.now) (statements_of body.now) start quit w)) }
+        ensures { (w : Written) → Stands out.old w →
+            OnOk result (Stands out.new (looped (names_at self.now) (course_of course.now) (statements_of body.now) start quit w)) }
     {
         if goes_to_begin(course) {
             self.body_inside(start, quit, false, body, out)
@@ -339,7 +357,8 @@ impl Context<'_> {
         statements: &[Stmt],
         out: &mut Writer,
     ) -> Result<(), AllocError>
-        ensures { (w : Written) → Stands out.old w → OnOk result (Stands out.new (body (names_at self.now) (inside next quit counted) (statements_of statements.now) w)) }
+        ensures { (w : Written) → Stands out.old w →
+            OnOk result (Stands out.new (body (names_at self.now) (inside next quit counted) (statements_of statements.now) w)) }
     {
         let enclosing = Some(LoopPlaces {
             next,

@@ -11,7 +11,8 @@ use Rattle.p8_access.specs.declared.kinds.Test.TheVariants.{Count, PinsEqual, Pi
 use Rattle.p8_access.specs.declared.kinds.Reason.{Reason}
 use Rattle.p8_access.specs.declared.kinds.Reason.TheVariants as Why
 use Rattle.p8_access.specs.declared.kinds.Access.{Access}
-use Rattle.p8_access.specs.declared.kinds.Access.TheVariants.{Begin, Load, Read, Write, CogId, CogInit, CogStop, LockNew, LockRet, LockSet, LockClr, ClkSet, PinsIn, OutSet, DirSet, Wait, Clock, Halt}
+use Rattle.p8_access.specs.declared.kinds.Access.TheVariants.{Begin, Load, Read, Write, CogId, CogInit, CogStop, LockNew, LockRet, LockSet, LockClr}
+use Rattle.p8_access.specs.declared.kinds.Access.TheVariants.{ClkSet, PinsIn, OutSet, DirSet, Wait, Clock, Halt}
 use Rattle.p8_access.specs.declared.kinds.Answer.{Answer}
 use Rattle.p8_access.specs.declared.kinds.Answer.TheVariants.{Done, Value, Number, Was}
 use Rattle.p8_access.specs.declared.order.Turn.{Turn}
@@ -86,6 +87,7 @@ answer_by f =
 abbrev pub turn_by : List ℕ → Turn
 turn_by bytes = record {
   key = record { clock = little_number 4 bytes; cog = slice_index bytes 4 };
-  access = access_by (fields (slice_index bytes 5) (slice_index bytes 7) (little_number 4 (drop 8 bytes)) (little_number 4 (drop 12 bytes)) (little_number 4 (drop 16 bytes)));
+  access = access_by (fields (slice_index bytes 5) (slice_index bytes 7) (little_number 4 (drop 8 bytes)) (little_number 4 (drop 12 bytes))
+      (little_number 4 (drop 16 bytes)));
   answer = answer_by (record { kind = slice_index bytes 6; value = little_number 4 (drop 20 bytes) });
 }

@@ -45,7 +45,8 @@ fn head_and_records(alloc: Global, history: &History) -> Result<Vec<u8>, NoMemor
     requires clocks { history.now.limits.clocks ≤ 100000000 }
     requires turns { history.now.limits.turns ≤ 40000 }
     requires ended { (script : List Line) × Ended asks (world_of history.now.boot script history.now.limits) (reverse history.now.turns.list) }
-    ensures bytes { (script : List Line) → IfOk result (λ bytes. bytes.items ≡ file_of (world_of history.now.boot script history.now.limits) (reverse history.now.turns.list)) }
+    ensures bytes { (script : List Line) → IfOk result
+        (λ bytes. bytes.items ≡ file_of (world_of history.now.boot script history.now.limits) (reverse history.now.turns.list)) }
     ensures within { OnOk result (All Fits history.now.turns.list) }
 {
     let turns = history.turns.as_slice();
@@ -69,7 +70,8 @@ pub fn history_bytes(alloc: Global, history: &History) -> Result<Vec<u8>, NoMemo
     requires clocks { history.now.limits.clocks ≤ 100000000 }
     requires turns { history.now.limits.turns ≤ 40000 }
     requires ended { (script : List Line) × Ended asks (world_of history.now.boot script history.now.limits) (reverse history.now.turns.list) }
-    ensures { (script : List Line) → IfOk result (λ bytes. IsFile (world_of history.now.boot script history.now.limits) (reverse history.now.turns.list) bytes.items) }
+    ensures { (script : List Line) → IfOk result (λ bytes. IsFile (world_of history.now.boot script history.now.limits)
+        (reverse history.now.turns.list) bytes.items) }
 {
     halts_name_registers();
     let bytes = head_and_records(alloc, history)?;

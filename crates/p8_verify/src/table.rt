@@ -3,7 +3,8 @@ ghost use Rattle.std.specs.Prelude.{◌≡◌};
 ghost use Rattle.p8_access.specs.Proper.{IsProper};
 ghost use Rattle.p8_verify.specs.Halts.{IsProperReason, IsProperHalt};
 ghost use Rattle.p8_ledger.specs.Turns.{HasNumber};
-ghost use Rattle.p8_verify.specs.Table.{IsOriginWithin, IsTestWithin, IsReasonWithin, IsAccessWithin, IsAnswerWithin, fields, width_number, target_number, pair, start_fields, test_fields, reason_fields, access_fields, answer_fields};
+ghost use Rattle.p8_verify.specs.Table.{IsOriginWithin, IsTestWithin, IsReasonWithin, IsAccessWithin, IsAnswerWithin, fields, width_number};
+ghost use Rattle.p8_verify.specs.Table.{target_number, pair, start_fields, test_fields, reason_fields, access_fields, answer_fields};
 
 use p8_access::{Access, Answer, Origin, Reason, Test, Width};
 

@@ -94,7 +94,8 @@ fn difference(turn: &Turn, next: &Turn) -> Option<Cause>
 /// Makes the machine's next turn, and tells why a turn of a file isn't that one, where it isn't.
 fn follow(machine: &mut Machine, turn: &Turn) -> Option<Cause>
     requires stands { IsStanding machine.old }
-    ensures turn { MatchOption result (Extends asks (world_in machine.old) (past_in machine.old) turn.now) (IsWrong (world_in machine.old) (past_in machine.old) turn.now) }
+    ensures turn { MatchOption result (Extends asks (world_in machine.old) (past_in machine.old) turn.now)
+        (IsWrong (world_in machine.old) (past_in machine.old) turn.now) }
     ensures past { result ≡ None → past_in machine.new ≡ turn.now ∷ past_in machine.old }
     ensures world { world_in machine.new ≡ world_in machine.old }
     ensures stands { IsStanding machine.new }

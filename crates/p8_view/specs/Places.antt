@@ -23,10 +23,13 @@ use Rattle.p8_view.specs.Words.{access_text, local_for}
 abbrev pub line_with : Legend → World → List Turn → Turn → (counter : Option ℕ) → (behind : List ℕ) → List ℕ
 line_with legend w past turn counter behind =
     when_text (rate w) turn
-    ++ (access_text legend.names (origin_of (cog_state w past turn.key.cog)) (local_for legend (origin_of (cog_state w past turn.key.cog)) counter) turn.access turn.answer ++ pins_text (drives_of past) (drives_of (turn ∷ past)) ++ behind ++ 10 ∷ [])
+    ++ (access_text legend.names (origin_of (cog_state w past turn.key.cog))
+    (local_for legend (origin_of (cog_state w past turn.key.cog)) counter) turn.access turn.answer ++
+    pins_text (drives_of past) (drives_of (turn ∷ past)) ++ behind ++ 10 ∷ [])
 
 -- the line of the turn with this counter ends with the place of this statement
-pub record EndsWithPlace (sources : List (List ℕ)) (files : List NamedSource) (legend : Legend) (w : World) (past : List Turn) (turn : Turn) (counter : Option ℕ) (statement : Option Place) : Type 0 where
+pub record EndsWithPlace (sources : List (List ℕ)) (files : List NamedSource) (legend : Legend) (w : World) (past : List Turn) (turn : Turn)
+    (counter : Option ℕ) (statement : Option Place) : Type 0 where
   pub file_number : ℕ
   pub method_number : ℕ
   pub place : Place
@@ -37,14 +40,17 @@ pub record EndsWithPlace (sources : List (List ℕ)) (files : List NamedSource) 
 
 -- The line of a turn, which comes after a past: where its counter is known and its cog runs Spin it ends with the place of the statement for which the source
 -- asks the access, told up to the limit of clocks; the source is that of any method with whose origin the life began. Where none is known no place is shown.
-pub record ShowsPlace (sources : List (List ℕ)) (files : List NamedSource) (program : Program) (addresses : Addresses) (legend : Legend) (w : World) (past : List Turn) (turn : Turn) (counter : Option ℕ) : Type 0 where
+pub record ShowsPlace (sources : List (List ℕ)) (files : List NamedSource) (program : Program) (addresses : Addresses) (legend : Legend) (w : World)
+    (past : List Turn) (turn : Turn) (counter : Option ℕ) : Type 0 where
   pub is_counter : IsCounterIn w past turn.key.cog (cog_state w past turn.key.cog) counter
   pub place : (origin : Origin) → cog_state w past turn.key.cog ≡ Running origin → (entered : Entered) → begun w past turn.key.cog ≡ Some (SpinBegun entered)
       → (address : ℕ) → counter ≡ Some address → (target : Target) (frame : ℕ) → IsMethodOrigin program addresses entered.origin target frame
-      → EndsWithPlace sources files legend w past turn counter (says_for program addresses target frame entered.cog (map answer_of (since_begin past turn.key.cog)) w.clocks)
+      → EndsWithPlace sources files legend w past turn counter
+      (says_for program addresses target frame entered.cog (map answer_of (since_begin past turn.key.cog)) w.clocks)
   pub none : counter ≡ None → turn_line legend w past turn counter ≡ line_with legend w past turn counter []
 
 -- so does the line of each turn of a history; the counters are those of its turns, the oldest first
 abbrev pub LinesShowPlaces : List (List ℕ) → List NamedSource → Program → Addresses → Legend → World → List (Option ℕ) → List Turn → Type 0
 LinesShowPlaces sources files program addresses legend w counters history =
-    (later : List Turn) (turn : Turn) (past : List Turn) → history ≡ later ++ turn ∷ past → ShowsPlace sources files program addresses legend w past turn (counter_of counters (length past))
+    (later : List Turn) (turn : Turn) (past : List Turn) → history ≡ later ++ turn ∷ past →
+    ShowsPlace sources files program addresses legend w past turn (counter_of counters (length past))

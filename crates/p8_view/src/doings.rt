@@ -121,7 +121,8 @@ impl Doings {
     /// Appends the line of a cog.
     pub fn push_cog(&self, out: &mut Vec<u8>, nexts: &Nexts<'_>, cog: u8) -> Result<(), NoMemory>
         requires { cog < 8 }
-        ensures { (past : List Turn) → AreDoings past self.now → OnOk result (out.new.items ≡ out.old.items ++ cog_line nexts.now.legend.now.names nexts.now.clocks nexts.now.asked.now past cog) }
+        ensures { (past : List Turn) → AreDoings past self.now →
+            OnOk result (out.new.items ≡ out.old.items ++ cog_line nexts.now.legend.now.names nexts.now.clocks nexts.now.asked.now past cog) }
     {
         let doing = self.doing(cog);
         let last = self.last(cog);

@@ -18,7 +18,8 @@ use p8_words::NoMemory;
 
 /// Appends the lines of the eight cogs.
 fn push_cogs(out: &mut Vec<u8>, doings: &Doings, nexts: &Nexts<'_>) -> Result<(), NoMemory>
-    ensures { (past : List Turn) → AreDoings past doings.now → OnOk result (out.new.items ≡ out.old.items ++ flat_map (cog_line nexts.now.legend.now.names nexts.now.clocks nexts.now.asked.now past) cogs) }
+    ensures { (past : List Turn) → AreDoings past doings.now →
+        OnOk result (out.new.items ≡ out.old.items ++ flat_map (cog_line nexts.now.legend.now.names nexts.now.clocks nexts.now.asked.now past) cogs) }
 {
     for cog in 0..8 {
         doings.push_cog(out, nexts, cog)?;

@@ -25,7 +25,12 @@ use p8_legend::turns_have_the_places_of_their_statements;
 /// The files are those of a project with the top file first, each one read, under names of their own, and the file of each object among them, and none leads
 /// back to itself through its objects. The counters are those of the turns, as [`view`](crate::view) takes them.
 pub fn lines_show_the_places_of_their_statements()
-    ensures { (sources : List (List ℕ)) → (files : List NamedSource) → length sources ≡ length files → AreProper files → 0 < length files → AreDistinct files → HaveMentioned files → HaveNoRing files → (image : ImageValue) → (is : IsImageBuilt files image) → (legend : Legend) → IsLegendOf sources files legend → (w : World) → w.memory ≡ memory_of image.file → w.first ≡ start_of (header_of image.file) → (history : List Turn) → Legal asks w history → (counters : List (Option ℕ)) → AreCounters w history (reverse counters) → LinesShowPlaces sources files (program_of files is.0.built.children is.0.built.compiled) (addresses_of files is.0.built.compiled is.0.objects) legend w counters history }
+    ensures { (sources : List (List ℕ)) → (files : List NamedSource) → length sources ≡ length files → AreProper files → 0 < length files →
+        AreDistinct files → HaveMentioned files → HaveNoRing files → (image : ImageValue) → (is : IsImageBuilt files image) → (legend : Legend) →
+        IsLegendOf sources files legend → (w : World) → w.memory ≡ memory_of image.file → w.first ≡ start_of (header_of image.file) →
+        (history : List Turn) → Legal asks w history → (counters : List (Option ℕ)) → AreCounters w history (reverse counters) →
+        LinesShowPlaces sources files (program_of files is.0.built.children is.0.built.compiled)
+        (addresses_of files is.0.built.compiled is.0.objects) legend w counters history }
 {
     turns_have_the_places_of_their_statements();
 }

@@ -129,7 +129,9 @@ impl<'a> Showing<'a> {
         counter: Option<u16>,
     ) -> Result<(), NoMemory>
         requires { turn.now.key.cog < 8 }
-        ensures { (w : World) (past : List Turn) → own.now ≡ origin_of (cog_state w past turn.now.key.cog) → before.now ≡ drives_of past → after.now ≡ drives_of (turn.now ∷ past) → self.now.frequency ≡ rate w → OnOk result (out.new.items ≡ out.old.items ++ turn_line self.now.legend.now w past turn.now counter) }
+        ensures { (w : World) (past : List Turn) → own.now ≡ origin_of (cog_state w past turn.now.key.cog) → before.now ≡ drives_of past →
+            after.now ≡ drives_of (turn.now ∷ past) → self.now.frequency ≡ rate w →
+            OnOk result (out.new.items ≡ out.old.items ++ turn_line self.now.legend.now w past turn.now counter) }
     {
         self.push_when(out, turn)?;
         self.push_what(out, own, turn, before, after, counter)
@@ -144,7 +146,8 @@ impl<'a> Showing<'a> {
         counter: Option<u16>,
     ) -> Result<(), NoMemory>
         requires { turn.now.key.cog < 8 }
-        ensures text { (w : World) (past : List Turn) → AreCogs w past cogs.old → self.now.frequency ≡ rate w → OnOk result (out.new.items ≡ out.old.items ++ shown_line self.now.options.now self.now.legend.now w past turn.now counter) }
+        ensures text { (w : World) (past : List Turn) → AreCogs w past cogs.old → self.now.frequency ≡ rate w →
+            OnOk result (out.new.items ≡ out.old.items ++ shown_line self.now.options.now self.now.legend.now w past turn.now counter) }
         ensures cogs { (w : World) (past : List Turn) → AreCogs w past cogs.old → AreCogs w (turn.now ∷ past) cogs.new }
     {
         let own = cogs.origin(turn.key.cog);
@@ -160,7 +163,8 @@ impl<'a> Showing<'a> {
 
     /// Whether a turn is shown, by how many reads of its load its cog has still to make and what the pins are before and after it.
     fn shows(&self, left: u16, before: &Drives, after: &Drives, turn: &Turn) -> bool
-        ensures { (past : List Turn) → left ≡ loading past turn.now.key.cog → before.now ≡ drives_of past → after.now ≡ drives_of (turn.now ∷ past) → result ≡ is_shown self.now.options.now past turn.now }
+        ensures { (past : List Turn) → left ≡ loading past turn.now.key.cog → before.now ≡ drives_of past → after.now ≡ drives_of (turn.now ∷ past) →
+            result ≡ is_shown self.now.options.now past turn.now }
     {
         let changes = !are_same(before, after);
         self.options.asks_for(turn.key.clock, turn.key.cog, changes)
@@ -187,7 +191,8 @@ pub(crate) fn lines(
     counters: &[Option<u16>],
 ) -> Result<Vec<u8>, NoMemory>
     requires { AreProper turns.now }
-    ensures { (w : World) → w.first ≡ first → showing.now.frequency ≡ rate w → IfOk result (λ text. text.items ≡ lines_of showing.now.options.now showing.now.legend.now w counters.now (reverse turns.now)) }
+    ensures { (w : World) → w.first ≡ first → showing.now.frequency ≡ rate w →
+        IfOk result (λ text. text.items ≡ lines_of showing.now.options.now showing.now.legend.now w counters.now (reverse turns.now)) }
 {
     let mut out = Vec::new(alloc);
     let mut cogs = Cogs::open(first);

@@ -1,5 +1,6 @@
 -- What stands below the pins of a picture: ticks, and at them clocks and times (this project's profile).
-use Rattle.std.specs.Prelude.{ℕ, ◌+◌, ◌-◌, ◌*◌, ◌/◌, ◌%◌, ◌^◌, ◌==◌, ◌≡◌, ◌<◌, nat_eq, nat_lt, if◌then◌else◌, true, List, [], ◌∷◌, ◌++◌, codes, filter, map, length, replicate}
+use Rattle.std.specs.Prelude.{ℕ, ◌+◌, ◌-◌, ◌*◌, ◌/◌, ◌%◌, ◌^◌, ◌==◌, ◌≡◌, ◌<◌, nat_eq, nat_lt, if◌then◌else◌, true, List, [], ◌∷◌, ◌++◌, codes}
+use Rattle.std.specs.Prelude.{filter, map, length, replicate}
 use Rattle.std.specs.Fmt.{decimal}
 use Rattle.std.specs.List.{list_all, list_any}
 use Rattle.p8_wave.specs.declared.axes.Axis.{Axis}

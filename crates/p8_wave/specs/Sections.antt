@@ -82,7 +82,8 @@ sections_by w past vs clock = flat_map (section_text w past vs) (filter (λ (c :
 
 -- all that comes before a clock is written: a walk has come to the clock before, a snapshot shows the values at
 -- it, and each entry tells whether its variable has changed
-pub record IsDone (w : World) (past : List Turn) (vs : List Variable) (next : ℕ) (left : List Turn) (course : Course) (old : Snapshot) (entries : List Entry) (before text : List ℕ) : Type 0 where
+pub record IsDone (w : World) (past : List Turn) (vs : List Variable) (next : ℕ) (left : List Turn) (course : Course) (old : Snapshot)
+    (entries : List Entry) (before text : List ℕ) : Type 0 where
   pub within : next ≤ end_of w past
   pub some : next < end_of w past → 0 < next
   pub at : IsAt w past (next - 1) left course

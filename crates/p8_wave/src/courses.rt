@@ -94,7 +94,8 @@ impl Course {
     /// The values of all variables.
     pub fn snapshot(&self) -> Snapshot
         ensures signals { result.signals ≡ self.now.signals }
-        ensures pins { (w : World) (past : List Turn) → AreSignals w past self.now.signals → result.pins ≡ pins_with (directions_after past) (outputs_after past) self.now.span.levels }
+        ensures pins { (w : World) (past : List Turn) → AreSignals w past self.now.signals →
+            result.pins ≡ pins_with (directions_after past) (outputs_after past) self.now.span.levels }
     {
         Snapshot {
             signals: self.signals,

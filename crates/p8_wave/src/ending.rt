@@ -82,7 +82,8 @@ pub fn push_end(
     clocks: u64,
     behind: &[u8],
 ) -> Result<(), NoMemory>
-    ensures { OnOk result (out.new.items ≡ out.old.items ++ (before.now ++ ended_text (length turns.now) (clock_of_last (reverse turns.now)) limit clocks ++ behind.now)) }
+    ensures { OnOk result (out.new.items ≡ out.old.items ++
+        (before.now ++ ended_text (length turns.now) (clock_of_last (reverse turns.now)) limit clocks ++ behind.now)) }
 {
     push_text(out, before)?;
     push_ended(out, turns.len() as u64, last_clock(turns), limit, clocks)?;

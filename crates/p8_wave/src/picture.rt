@@ -42,7 +42,8 @@ fn push_marks(
     requires pin { pin < 32 }
     requires rise { RiseFrom 0 (lines_of changes.now) }
     requires follow { Follow 0 columns.now }
-    ensures { OnOk result (out.new.items ≡ out.old.items ++ flat_map (λ column. text_of_mark ascii (mark_of (λ t. is_high pin (level_at (lines_of changes.now) t)) column)) columns.now) }
+    ensures { OnOk result (out.new.items ≡ out.old.items ++
+        flat_map (λ column. text_of_mark ascii (mark_of (λ t. is_high pin (level_at (lines_of changes.now) t)) column)) columns.now) }
 {
     let mut trace = Trace::new(changes);
     for column in columns {
@@ -84,7 +85,8 @@ fn picture(
 ) -> Result<Vec<u8>, NoMemory>
     requires rise { RiseFrom 0 (lines_of changes.now) }
     requires follow { Follow 0 columns.now }
-    ensures { IfOk result (λ text. text.items ≡ picture_of (λ pin t. is_high pin (level_at (lines_of changes.now) t)) view.now.ascii columns.now view.now.pins frequency shown) }
+    ensures { IfOk result (λ text. text.items ≡ picture_of
+        (λ pin t. is_high pin (level_at (lines_of changes.now) t)) view.now.ascii columns.now view.now.pins frequency shown) }
 {
     let mut out = Vec::new(alloc);
     for pin in 0..32 {

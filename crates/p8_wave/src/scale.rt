@@ -1,7 +1,8 @@
 // What a clock lasts, and the time scale of a wave.
 ghost use Rattle.std.specs.Prelude.{◌≡◌, ◌<◌, ◌≤◌, ◌+◌, ◌*◌, ◌^◌, ◌++◌, length, slice_index, OnOk};
 ghost use Rattle.p8_access.specs.Worlds.{World};
-ghost use Rattle.p8_wave.specs.Scale.{frequency, rate, period_of as period_in, power_of, ticks_of, ticks_in, count_text, second_text, unit_text, exact_text, tick_text, scale_text};
+ghost use Rattle.p8_wave.specs.Scale.{frequency, rate, period_of as period_in, power_of, ticks_of, ticks_in, count_text, second_text, unit_text};
+ghost use Rattle.p8_wave.specs.Scale.{exact_text, tick_text, scale_text};
 
 use crate::texts::push_numbered;
 use byteorder::{ByteOrder, LittleEndian};

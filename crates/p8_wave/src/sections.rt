@@ -73,7 +73,9 @@ impl Sections {
 
     /// What changes at a clock, where anything does.
     pub fn change(&mut self, clock: u64, old: &Snapshot, new: &Snapshot) -> Result<(), NoMemory>
-        ensures text { OnOk result (self.new.text.items ≡ self.old.text.items ++ (if some_differ old.now new.now self.old.entries.items then section_of (clock * self.old.ticks) old.now new.now self.new.entries.items else [])) }
+        ensures text { OnOk result (self.new.text.items ≡
+            self.old.text.items ++ (if some_differ old.now new.now self.old.entries.items then section_of
+            (clock * self.old.ticks) old.now new.now self.new.entries.items else [])) }
         ensures entries { self.new.entries.items ≡ map (marked old.now new.now) self.old.entries.items }
         ensures ticks { self.new.ticks ≡ self.old.ticks }
     {
@@ -86,7 +88,8 @@ impl Sections {
 
     /// The end, with what changes at it; nothing where it is at clock 0, whose values stand already.
     pub fn end(&mut self, clock: u64, old: &Snapshot, new: &Snapshot) -> Result<(), NoMemory>
-        ensures text { OnOk result (self.new.text.items ≡ self.old.text.items ++ (if nat_eq clock 0 then [] else section_of (clock * self.old.ticks) old.now new.now self.new.entries.items)) }
+        ensures text { OnOk result (self.new.text.items ≡
+            self.old.text.items ++ (if nat_eq clock 0 then [] else section_of (clock * self.old.ticks) old.now new.now self.new.entries.items)) }
         ensures entries { self.new.entries.items ≡ map (marked old.now new.now) self.old.entries.items }
         ensures ticks { self.new.ticks ≡ self.old.ticks }
     {

@@ -3,7 +3,7 @@ use Rattle.std.proofs.lemmas.List.{length-map}
 use Rattle.p8_tree.specs.declared.sources.Method.{Method}
 use Rattle.p8_tree.specs.Sources.{MethodTree}
 use Rattle.p8_tree.specs.Views.{source_of, method_of}
-use Rattle.p8_kinds.specs.ConstantEntries.{setting_of as setting_in}
+use Rattle.p8_fold.specs.ConstantEntries.{setting_of as setting_in}
 use Rattle.p8_kinds.specs.FileSettings.{file_setting}
 use Rattle.p8_constants.specs.FileItems.{Item, items}
 use Rattle.p8_constants.specs.Standing.{items_of}

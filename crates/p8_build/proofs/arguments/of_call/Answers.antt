@@ -1,6 +1,6 @@
 use Rattle.std.proofs.Common.{◌≡◌, ◌∙◌, ap, sym, subst, length}
 use Rattle.p8_tree.specs.declared.expressions.Call.{out-Call}
-use Rattle.p8_kinds.proofs.ValueRows.{call_form}
+use Rattle.p8_fold.proofs.ValueRows.{call_form}
 use Rattle.p8_kinds.proofs.Rows.{count_is}
 use Rattle.p8_build.specs.Arguments.{differing, own_told, told_at, wanted_by}
 use Rattle.p8_build.specs.Searching.{search_of}

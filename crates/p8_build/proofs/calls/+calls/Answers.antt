@@ -3,7 +3,7 @@ use Rattle.std.proofs.lemmas.Grind.{common_steps}
 use Rattle.std.specs.Option.{option_or}
 use Rattle.p8_tree.specs.Views.{form_of, tree_of, trees_of, item_of, items_of}
 use Rattle.p8_tree.specs.Bridges.{built_is, look_is}
-use Rattle.p8_kinds.proofs.ValueRows.{call_form}
+use Rattle.p8_fold.proofs.ValueRows.{call_form}
 use Rattle.p8_build.specs.Arguments.{told_in, told_inside, in_item, in_items, in_trees}
 use Rattle.p8_build.specs.Searching.{search_of}
 use Rattle.p8_build.proofs.Called.{trees_next, items_next}

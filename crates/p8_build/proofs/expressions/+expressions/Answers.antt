@@ -2,7 +2,7 @@ use Rattle.std.proofs.Common.{◌≡◌, ◌++◌, OnOk, refl, sym, ap, ◌∙�
 use Rattle.std.proofs.lemmas.Grind.{common_steps}
 use Rattle.p8_tree.specs.Views.{form_of}
 use Rattle.p8_tree.specs.Bridges.{strings_is, built_is, look_is}
-use Rattle.p8_kinds.proofs.ValueRows.{call_form}
+use Rattle.p8_fold.proofs.ValueRows.{call_form}
 use Rattle.p8_build.specs.Strings.{in_form}
 use Rattle.p8_build.specs.Views.{texts_of}
 use Rattle.p8_build.proofs.Rows.{one_string, trees_next, items_next}

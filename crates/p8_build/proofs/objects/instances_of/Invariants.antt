@@ -1,7 +1,7 @@
 use Rattle.std.proofs.Common.{◌≡◌, ◌++◌, map, drop}
 use Rattle.std.specs.List.{flat_map}
 use Rattle.p8_tree.specs.Views.{named_source_of}
-use Rattle.p8_kinds.specs.ConstantEntries.{setting_of}
+use Rattle.p8_fold.specs.ConstantEntries.{setting_of}
 use Rattle.p8_constants.specs.Standing.{items_of}
 use Rattle.p8_names.specs.Kinds.{objects}
 use Rattle.p8_build.specs.Parts.{instances_of}

@@ -4,9 +4,9 @@ use Rattle.p8_tree.specs.declared.expressions.ExprKind as kind
 use Rattle.p8_tree.specs.Expressions.{Strings}
 use Rattle.p8_tree.specs.Views.{form_of, trees_of}
 use Rattle.p8_tree.specs.Bridges.{strings_is}
-use Rattle.p8_kinds.specs.ConstantEntries.{setting_of}
-use Rattle.p8_kinds.specs.Meanings.{Setting}
-use Rattle.p8_kinds.proofs.ValueRows.{call_form}
+use Rattle.p8_fold.specs.ConstantEntries.{setting_of}
+use Rattle.p8_fold.specs.Meanings.{Setting}
+use Rattle.p8_fold.proofs.ValueRows.{call_form}
 use Rattle.p8_build.specs.Parts.{text_in}
 use Rattle.p8_build.proofs.texts.text_in.Goals as goal
 

@@ -1,5 +1,5 @@
 use Rattle.std.proofs.Common.{◌≡◌, map, take}
-use Rattle.p8_kinds.specs.ConstantEntries.{setting_of}
+use Rattle.p8_fold.specs.ConstantEntries.{setting_of}
 use Rattle.p8_build.specs.Numbers.{text_of}
 use Rattle.p8_build.specs.Parts.{text_in}
 use Rattle.p8_build.proofs.texts.texts_in.Given as goal

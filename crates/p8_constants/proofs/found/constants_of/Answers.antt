@@ -1,6 +1,6 @@
 use Rattle.std.proofs.Common.{◌≡◌, ◌∙◌, length, sym, arith}
 use Rattle.p8_tree.specs.Views.{source_of}
-use Rattle.p8_kinds.specs.ConstantEntries.{setting_of, at_bytes}
+use Rattle.p8_fold.specs.ConstantEntries.{setting_of, at_bytes}
 use Rattle.p8_constants.proofs.Stepping.{sized, first_place, outside_stands, constants_have, others_have_none, objects_stand, here_stands, first_fault}
 use Rattle.p8_constants.proofs.found.constants_of.Goals as goal
 

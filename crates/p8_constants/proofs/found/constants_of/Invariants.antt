@@ -1,5 +1,5 @@
 use Rattle.p8_tree.specs.Views.{source_of}
-use Rattle.p8_kinds.specs.ConstantEntries.{setting_of}
+use Rattle.p8_fold.specs.ConstantEntries.{setting_of}
 use Rattle.p8_constants.specs.Constants.{scope_of}
 use Rattle.p8_constants.specs.Rows.{rows_from, IsEvaluated}
 use Rattle.p8_constants.proofs.found.constants_of.Given as goal

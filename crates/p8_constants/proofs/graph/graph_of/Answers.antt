@@ -1,5 +1,5 @@
 use Rattle.std.proofs.Common.{◌≡◌, length, subst, ap, arith}
-use Rattle.p8_kinds.specs.ConstantEntries.{at_bytes}
+use Rattle.p8_fold.specs.ConstantEntries.{at_bytes}
 use Rattle.p8_constants.specs.Rows.{rows_from, nodes_by, IsGraphBy}
 use Rattle.p8_constants.proofs.Growing.{item_added}
 use Rattle.p8_constants.proofs.graph.graph_of.Goals as goal

@@ -1,4 +1,4 @@
-use Rattle.p8_kinds.specs.ConstantEntries.{at_bytes}
+use Rattle.p8_fold.specs.ConstantEntries.{at_bytes}
 use Rattle.p8_constants.specs.Rows.{rows_from, IsGraphBy}
 use Rattle.p8_constants.proofs.graph.graph_of.Given as goal
 

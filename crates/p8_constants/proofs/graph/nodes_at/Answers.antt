@@ -1,7 +1,7 @@
 use Rattle.std.proofs.Common.{◌∙◌, ◌<◌, ◌++◌, map, length, ap, arith}
 use Rattle.std.specs.Option.{option_to_list}
 use Rattle.std.proofs.lemmas.List.{length-map}
-use Rattle.p8_kinds.specs.ConstantEntries.{at_bytes}
+use Rattle.p8_fold.specs.ConstantEntries.{at_bytes}
 use Rattle.p8_constants.proofs.Growing.{nodes_more, name_read}
 use Rattle.p8_constants.proofs.graph.nodes_at.Goals as goal
 

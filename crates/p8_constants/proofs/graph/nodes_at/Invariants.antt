@@ -1,6 +1,6 @@
 use Rattle.std.proofs.Common.{◌≡◌, take, map}
 use Rattle.std.specs.List.{filter_map}
-use Rattle.p8_kinds.specs.ConstantEntries.{at_bytes}
+use Rattle.p8_fold.specs.ConstantEntries.{at_bytes}
 use Rattle.p8_constants.proofs.graph.nodes_at.Given as goal
 
 abbrev pub invariant-loop-name : goal.invariant-loop-name

@@ -1,5 +1,5 @@
 use Rattle.std.proofs.Common.{◌+◌, drop, subst, arith}
-use Rattle.p8_kinds.specs.ConstantEntries.{setting_of}
+use Rattle.p8_fold.specs.ConstantEntries.{setting_of}
 use Rattle.p8_constants.specs.Rules.{instances_behind, HasWrongInstances, WrongInstancesIn}
 use Rattle.p8_constants.specs.Standing.{item_of, items_of}
 use Rattle.p8_constants.proofs.FirstFaults.{IsSoFar, so_far_then}

@@ -1,5 +1,5 @@
 use Rattle.std.proofs.Common.{ℕ, ◌≤◌, drop}
-use Rattle.p8_kinds.specs.ConstantEntries.{setting_of}
+use Rattle.p8_fold.specs.ConstantEntries.{setting_of}
 use Rattle.p8_constants.specs.Rules.{WrongInstancesIn}
 use Rattle.p8_constants.specs.Standing.{items_of, IsCapped}
 use Rattle.p8_constants.proofs.FirstFaults.{IsSoFar}

@@ -1,5 +1,5 @@
 use Rattle.std.proofs.Common.{sym, subst}
-use Rattle.p8_kinds.specs.ConstantEntries.{setting_of}
+use Rattle.p8_fold.specs.ConstantEntries.{setting_of}
 use Rattle.p8_constants.specs.Rules.{HasWrongInstances}
 use Rattle.p8_constants.specs.Standing.{item_of, IsFirstOf}
 use Rattle.p8_constants.proofs.instances.instance_fault.Goals as goal

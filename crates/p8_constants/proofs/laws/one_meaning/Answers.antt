@@ -1,4 +1,4 @@
-use Rattle.p8_kinds.proofs.Agreeing.{value_same, faults_alike}
+use Rattle.p8_fold.proofs.Agreeing.{value_same, faults_alike}
 use Rattle.p8_constants.proofs.OneValue.{right_one}
 use Rattle.p8_constants.proofs.laws.one_meaning.Goals as goal
 

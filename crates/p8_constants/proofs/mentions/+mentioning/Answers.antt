@@ -2,7 +2,7 @@ use Rattle.std.proofs.Common.{◌≡◌, ◌++◌, OnOk, sym, ap, ◌∙◌, sub
 use Rattle.std.proofs.lemmas.Grind.{common_steps}
 use Rattle.p8_tree.specs.Views.{form_of}
 use Rattle.p8_tree.specs.Bridges.{strings_is, built_is, look_is}
-use Rattle.p8_kinds.proofs.ValueRows.{call_form}
+use Rattle.p8_fold.proofs.ValueRows.{call_form}
 use Rattle.p8_constants.specs.Mentions.{form_mentioned}
 use Rattle.p8_constants.proofs.Mentioned.{trees_next, items_next}
 use Rattle.p8_constants.proofs.mentions.+mentioning.Goals as goal

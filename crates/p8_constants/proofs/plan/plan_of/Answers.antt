@@ -1,7 +1,7 @@
 use Rattle.std.proofs.Common.{◌∙◌, ◌<◌, ◌↔◌, ◌≤◌, ℕ, length, get_or, subst}
 use Rattle.std.specs.Prelude.{Contains}
 use Rattle.p8_constants.specs.Orders.{ComesNoLater}
-use Rattle.p8_kinds.specs.ConstantEntries.{setting_of, at_bytes}
+use Rattle.p8_fold.specs.ConstantEntries.{setting_of, at_bytes}
 use Rattle.p8_constants.specs.Rows.{rows_from}
 use Rattle.p8_constants.proofs.Growing.{graph_of_all, has_its_targets}
 use Rattle.p8_constants.proofs.plan.plan_of.Goals as goal

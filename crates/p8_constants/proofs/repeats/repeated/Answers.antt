@@ -1,7 +1,7 @@
 use Rattle.std.proofs.Common.{◌++◌, sym, subst, ap, ◌∙◌}
 use Rattle.std.specs.Prelude.{IsTrue, Contains, ◌↔◌}
 use Rattle.p8_tree.specs.Faults.{fault}
-use Rattle.p8_kinds.specs.Values.{where_so}
+use Rattle.p8_fold.specs.Values.{where_so}
 use Rattle.p8_tree.specs.declared.refusal.Refusal.TheVariants.{Duplicate}
 use Rattle.p8_constants.specs.Repeats.{Repeats}
 use Rattle.p8_constants.specs.Standing.{defined_of, IsFirstOf}

@@ -1,5 +1,5 @@
 use Rattle.std.proofs.Common.{arith, subst}
-use Rattle.p8_kinds.specs.ConstantEntries.{setting_of}
+use Rattle.p8_fold.specs.ConstantEntries.{setting_of}
 use Rattle.p8_constants.specs.Rules.{HasFaultInCount, FaultInCount}
 use Rattle.p8_constants.specs.Standing.{IsFirstOf}
 use Rattle.p8_constants.proofs.FirstFaults.{so_far_begin}

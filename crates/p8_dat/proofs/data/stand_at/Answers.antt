@@ -1,6 +1,6 @@
 use Rattle.std.proofs.Common.{Some, ap, ◌∙◌}
-use Rattle.p8_kinds.specs.ConstantEntries.{setting_of}
-use Rattle.p8_kinds.specs.Meanings.{outside_operands}
+use Rattle.p8_fold.specs.ConstantEntries.{setting_of}
+use Rattle.p8_fold.specs.Meanings.{outside_operands}
 use Rattle.p8_dat.proofs.Settings.{stands_elsewhere}
 use Rattle.p8_dat.proofs.data.stand_at.Goals as goal
 

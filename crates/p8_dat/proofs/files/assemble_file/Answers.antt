@@ -1,7 +1,7 @@
 use Rattle.std.proofs.Common.{◌≡◌, ◌++◌, map, ap, sym, ◌∙◌, rules}
 use Rattle.std.specs.List.{fold}
 use Rattle.p8_tree.specs.Views.{source_of}
-use Rattle.p8_kinds.specs.ConstantEntries.{setting_of}
+use Rattle.p8_fold.specs.ConstantEntries.{setting_of}
 use Rattle.p8_dat.specs.Names.{with_common, regions}
 use Rattle.p8_dat.specs.Blocks.{counts_setting, placed_lines, regions_bytes}
 use Rattle.p8_dat.specs.Placing.{placed_of, unplaced}

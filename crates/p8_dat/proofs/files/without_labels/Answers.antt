@@ -1,7 +1,7 @@
 use Rattle.std.proofs.Common.{map, ap, ◌∙◌}
 use Rattle.std.specs.List.{fold}
 use Rattle.p8_tree.specs.Views.{block_of}
-use Rattle.p8_kinds.specs.ConstantEntries.{setting_of}
+use Rattle.p8_fold.specs.ConstantEntries.{setting_of}
 use Rattle.p8_dat.specs.Names.{hidden}
 use Rattle.p8_dat.specs.Blocks.{dat_lines}
 use Rattle.p8_dat.specs.Placing.{unplaced}

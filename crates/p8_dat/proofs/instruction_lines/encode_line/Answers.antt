@@ -1,7 +1,7 @@
 use Rattle.std.proofs.Common.{◌≡◌, rules, sym, subst}
 use Rattle.p8_tree.specs.Views.{instruction_of}
-use Rattle.p8_kinds.specs.ConstantEntries.{setting_of}
-use Rattle.p8_kinds.proofs.Judging.{Tells}
+use Rattle.p8_fold.specs.ConstantEntries.{setting_of}
+use Rattle.p8_fold.proofs.Judging.{Tells}
 use Rattle.p8_dat.specs.Encoding.{FaultInInstruction}
 use Rattle.p8_dat.specs.FirstOfLine.{first_in_instruction}
 use Rattle.p8_dat.proofs.ToldOfLine.{instruction_told, as_match}

@@ -1,5 +1,5 @@
 use Rattle.std.proofs.Common.{sym, ap, ◌∙◌}
-use Rattle.p8_kinds.specs.ConstantEntries.{setting_of}
+use Rattle.p8_fold.specs.ConstantEntries.{setting_of}
 use Rattle.p8_dat.specs.Names.{with_label}
 use Rattle.p8_dat.proofs.Settings.{name_entered}
 use Rattle.p8_dat.proofs.labels.enter.Goals as goal

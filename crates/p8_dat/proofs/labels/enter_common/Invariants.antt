@@ -1,7 +1,7 @@
 use Rattle.std.proofs.Common.{◌≡◌, length, map}
 use Rattle.std.specs.List.{fold}
 use Rattle.p8_dat.specs.Placing.{placed_of}
-use Rattle.p8_kinds.specs.ConstantEntries.{setting_of}
+use Rattle.p8_fold.specs.ConstantEntries.{setting_of}
 use Rattle.p8_dat.specs.Names.{with_common}
 use Rattle.p8_dat.proofs.labels.enter_common.Given as goal
 

@@ -1,6 +1,6 @@
 use Rattle.std.proofs.Common.{ap, ◌∙◌}
-use Rattle.p8_kinds.specs.ConstantEntries.{setting_of}
-use Rattle.p8_kinds.specs.Meanings.{in_operand}
+use Rattle.p8_fold.specs.ConstantEntries.{setting_of}
+use Rattle.p8_fold.specs.Meanings.{in_operand}
 use Rattle.p8_dat.proofs.Settings.{stands_elsewhere}
 use Rattle.p8_dat.proofs.lines.stand_at_instruction.Goals as goal
 

@@ -4,7 +4,7 @@ use Rattle.p8_tree.specs.declared.expressions.Call as call
 use Rattle.p8_tree.specs.declared.expressions.ExprKind as kind
 use Rattle.p8_tree.specs.Expressions.{node}
 use Rattle.p8_tree.specs.Views.{form_of}
-use Rattle.p8_kinds.proofs.ValueRows.{call_form}
+use Rattle.p8_fold.proofs.ValueRows.{call_form}
 use Rattle.p8_dat.specs.Encoding.{name_alone}
 use Rattle.p8_dat.proofs.operands.name_alone.Goals as goal
 

@@ -1,6 +1,6 @@
 use Rattle.std.proofs.Common.{◌≡◌, length, map}
 use Rattle.p8_tree.specs.Views.{datum_of}
-use Rattle.p8_kinds.specs.ConstantEntries.{setting_of}
+use Rattle.p8_fold.specs.ConstantEntries.{setting_of}
 use Rattle.p8_dat.specs.Spots.{behind_items}
 use Rattle.p8_dat.proofs.placing.behind_items.Given as goal
 

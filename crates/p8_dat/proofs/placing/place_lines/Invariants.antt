@@ -1,6 +1,6 @@
 use Rattle.std.proofs.Common.{◌≡◌, ◌++◌, length, map}
 use Rattle.p8_tree.specs.Views.{line_of}
-use Rattle.p8_kinds.specs.ConstantEntries.{setting_of}
+use Rattle.p8_fold.specs.ConstantEntries.{setting_of}
 use Rattle.p8_dat.specs.Spots.{placed, behind_lines}
 use Rattle.p8_dat.specs.Placing.{placed_of}
 use Rattle.p8_dat.proofs.placing.place_lines.Given as goal

@@ -1,5 +1,5 @@
 use Rattle.std.proofs.Common.{◌≡◌, ◌++◌, map, ap, ◌∙◌}
-use Rattle.p8_kinds.specs.ConstantEntries.{setting_of}
+use Rattle.p8_fold.specs.ConstantEntries.{setting_of}
 use Rattle.p8_dat.specs.Names.{names_in}
 use Rattle.p8_dat.specs.Bytes.{lines_bytes}
 use Rattle.p8_dat.specs.First.{told_in_lines}

@@ -1,6 +1,6 @@
 use Rattle.std.proofs.Common.{◌<◌, length, map, refl, sym, subst, ◌∙◌, arith}
 use Rattle.std.proofs.lemmas.Bool.Decides.{nat_tests}
-use Rattle.p8_kinds.specs.ConstantEntries.{setting_of}
+use Rattle.p8_fold.specs.ConstantEntries.{setting_of}
 use Rattle.p8_dat.specs.Placing.{placed_of, unplaced, AreHidden}
 use Rattle.p8_dat.proofs.LocalLabels.{hidden_in_take, hidden_in_drop, next_region, next_told_region}
 use Rattle.p8_dat.proofs.regions.put_regions.Goals as goal

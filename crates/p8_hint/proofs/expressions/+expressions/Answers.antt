@@ -2,7 +2,7 @@ use Rattle.std.proofs.Common.{◌≡◌, ◌++◌, OnOk, sym, ap, ◌∙◌, sub
 use Rattle.std.proofs.lemmas.Grind.{common_steps}
 use Rattle.p8_tree.specs.Views.{form_of}
 use Rattle.p8_tree.specs.Bridges.{look_is}
-use Rattle.p8_kinds.proofs.ValueRows.{call_form}
+use Rattle.p8_fold.proofs.ValueRows.{call_form}
 use Rattle.p8_hint.specs.Spots.{in_form}
 use Rattle.p8_hint.specs.SpotViews.{spots_of}
 use Rattle.p8_hint.proofs.Rows.{trees_next, items_next, strings_spots, built_spots}

@@ -1,6 +1,6 @@
 use Rattle.std.proofs.Common.{◌≡◌, map, take}
 use Rattle.p8_tree.specs.Views.{declared_of}
-use Rattle.p8_kinds.specs.ConstantEntries.{setting_of}
+use Rattle.p8_fold.specs.ConstantEntries.{setting_of}
 use Rattle.p8_map.specs.Names.{local_name}
 use Rattle.p8_map.proofs.names.locals_of.Given as goal
 

@@ -1,5 +1,5 @@
 use Rattle.std.proofs.Common.{arith}
-use Rattle.p8_kinds.specs.ConstantEntries.{setting_of}
+use Rattle.p8_fold.specs.ConstantEntries.{setting_of}
 use Rattle.p8_meaning.specs.Constants.{constants_in}
 use Rattle.p8_meaning.proofs.Bodies.{no-test}
 use Rattle.p8_meaning.proofs.chains.condition_of_arm.Goals as goal

@@ -2,8 +2,8 @@ use Rattle.std.proofs.Common.{sym, ap, ◌∙◌}
 use Rattle.p8_tree.specs.Expressions.{node}
 use Rattle.p8_tree.specs.Views.{form_of}
 use Rattle.p8_tree.specs.Bridges.{strings_is}
-use Rattle.p8_kinds.specs.ConstantEntries.{setting_of}
-use Rattle.p8_kinds.proofs.ValueRows.{call_form}
+use Rattle.p8_fold.specs.ConstantEntries.{setting_of}
+use Rattle.p8_fold.proofs.ValueRows.{call_form}
 use Rattle.p8_meaning.specs.Constants.{constants_in, constant_value}
 use Rattle.p8_meaning.proofs.known.+constant_value.Goals as goal
 

@@ -1,7 +1,7 @@
 use Rattle.std.proofs.Common.{◌≡◌, subst}
 use Rattle.p8_tree.specs.Views.{source_of}
-use Rattle.p8_kinds.specs.ConstantEntries.{setting_of}
-use Rattle.p8_kinds.specs.Meanings.{Setting}
+use Rattle.p8_fold.specs.ConstantEntries.{setting_of}
+use Rattle.p8_fold.specs.Meanings.{Setting}
 use Rattle.p8_constants.specs.Constants.{IsConstantFault}
 use Rattle.p8_constants.specs.Standing.{items_of, IsFirstOf}
 use Rattle.p8_names.specs.Settings.{outside}

@@ -1,6 +1,6 @@
 use Rattle.std.proofs.Common.{◌++◌, sym, ap, ◌∙◌, append-nil, arith}
 use Rattle.std.proofs.lemmas.List.{drop_all}
-use Rattle.p8_kinds.specs.ConstantEntries.{setting_of}
+use Rattle.p8_fold.specs.ConstantEntries.{setting_of}
 use Rattle.p8_constants.specs.Names.{predefined_names}
 use Rattle.p8_constants.specs.Standing.{item_of, items_of}
 use Rattle.p8_names.specs.Children.{behind, methods_from, constants_from}

@@ -1,5 +1,5 @@
 use Rattle.std.proofs.Common.{◌≡◌, ℕ, List, ◌++◌, drop}
-use Rattle.p8_kinds.specs.ConstantEntries.{setting_of}
+use Rattle.p8_fold.specs.ConstantEntries.{setting_of}
 use Rattle.p8_constants.specs.Names.{predefined_names}
 use Rattle.p8_constants.specs.Standing.{items_of, Holds}
 use Rattle.p8_names.specs.Children.{methods_from, constants_from}

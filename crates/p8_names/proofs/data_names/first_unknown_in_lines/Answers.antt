@@ -1,5 +1,5 @@
 use Rattle.std.proofs.Common.{◌+◌, List, ℕ, drop, subst}
-use Rattle.p8_kinds.specs.ConstantEntries.{setting_of}
+use Rattle.p8_fold.specs.ConstantEntries.{setting_of}
 use Rattle.p8_constants.specs.Repeats.{label_of}
 use Rattle.p8_constants.specs.Standing.{item_of, items_of, IsFirstOf}
 use Rattle.p8_constants.proofs.FirstFaults.{IsSoFar, so_far_begin, so_far_then}

@@ -1,5 +1,5 @@
 use Rattle.std.proofs.Common.{◌≡◌, ℕ, ◌<◌, List, None, take, drop}
-use Rattle.p8_kinds.specs.ConstantEntries.{setting_of}
+use Rattle.p8_fold.specs.ConstantEntries.{setting_of}
 use Rattle.p8_constants.specs.Standing.{items_of}
 use Rattle.p8_kinds.specs.Kinds.{own, or_else}
 use Rattle.p8_names.specs.Kinds.{file_kind, kind_among}

@@ -1,6 +1,6 @@
 use Rattle.std.proofs.Common.{◌≡◌, take, map, filter_map}
 use Rattle.p8_tree.specs.Views.{source_of}
-use Rattle.p8_kinds.specs.ConstantEntries.{at_bytes}
+use Rattle.p8_fold.specs.ConstantEntries.{at_bytes}
 use Rattle.p8_names.specs.Mentions.{mentions}
 use Rattle.p8_names.proofs.graph.graph_of.Given as goal
 

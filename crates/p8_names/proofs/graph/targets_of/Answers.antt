@@ -1,5 +1,5 @@
 use Rattle.std.proofs.Common.{arith}
-use Rattle.p8_kinds.specs.ConstantEntries.{at_bytes}
+use Rattle.p8_fold.specs.ConstantEntries.{at_bytes}
 use Rattle.p8_names.proofs.ShowingChildren.{targets_next}
 use Rattle.p8_names.proofs.graph.targets_of.Goals as goal
 

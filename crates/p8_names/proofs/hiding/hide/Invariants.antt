@@ -1,5 +1,5 @@
 use Rattle.std.proofs.Common.{◌≡◌, ℕ, List, drop}
-use Rattle.p8_kinds.specs.ConstantEntries.{setting_of}
+use Rattle.p8_fold.specs.ConstantEntries.{setting_of}
 use Rattle.p8_constants.specs.Names.{spelled}
 use Rattle.p8_constants.specs.Standing.{all_defined_of}
 use Rattle.p8_names.proofs.Showing.{KeepsRest, hidden}

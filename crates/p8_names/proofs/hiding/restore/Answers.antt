@@ -1,7 +1,7 @@
 use Rattle.std.proofs.Common.{ℕ, List, Some, Option, subst, arith}
 use Rattle.std.specs.Prelude.{option_map}
-use Rattle.p8_kinds.specs.declared.meanings.Meaning.{Meaning}
-use Rattle.p8_kinds.specs.ConstantEntries.{setting_of}
+use Rattle.p8_fold.specs.declared.meanings.Meaning.{Meaning}
+use Rattle.p8_fold.specs.ConstantEntries.{setting_of}
 use Rattle.p8_kinds.specs.Kinds.{own}
 use Rattle.p8_kinds.specs.FileSettings.{meaning_of_kind}
 use Rattle.p8_names.specs.Changes.{IsPut}

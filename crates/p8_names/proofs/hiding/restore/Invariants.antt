@@ -1,6 +1,6 @@
 use Rattle.std.proofs.Common.{drop}
 use Rattle.std.specs.Prelude.{option_map}
-use Rattle.p8_kinds.specs.ConstantEntries.{setting_of}
+use Rattle.p8_fold.specs.ConstantEntries.{setting_of}
 use Rattle.p8_constants.specs.Names.{spelled}
 use Rattle.p8_constants.specs.Standing.{all_defined_of}
 use Rattle.p8_kinds.specs.Kinds.{own}

@@ -1,6 +1,6 @@
 use Rattle.std.proofs.Common.{◌+◌, map, drop, subst, arith}
 use Rattle.p8_tree.specs.Views.{declared_of}
-use Rattle.p8_kinds.specs.ConstantEntries.{setting_of}
+use Rattle.p8_fold.specs.ConstantEntries.{setting_of}
 use Rattle.p8_constants.specs.Rules.{FaultInCount}
 use Rattle.p8_constants.proofs.Listed.{rest_is, rest_is_empty}
 use Rattle.p8_constants.proofs.FirstFaults.{IsSoFar, so_far_begin, so_far_then, so_far_end}

@@ -1,6 +1,6 @@
 use Rattle.std.proofs.Common.{map, subst}
 use Rattle.p8_tree.specs.Views.{declared_of, statements_of}
-use Rattle.p8_kinds.specs.ConstantEntries.{setting_of}
+use Rattle.p8_fold.specs.ConstantEntries.{setting_of}
 use Rattle.p8_kinds.specs.Environments.{environment_of}
 use Rattle.p8_kinds.specs.Misuses.{MisuseInStatements}
 use Rattle.p8_constants.specs.Standing.{IsFirstOf}

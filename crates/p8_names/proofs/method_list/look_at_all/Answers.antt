@@ -4,8 +4,8 @@ use Rattle.std.specs.Prelude.{slice_get, option_map}
 use Rattle.p8_tree.specs.declared.sources.Method.{Method}
 use Rattle.p8_tree.specs.Sources.{MethodTree}
 use Rattle.p8_tree.specs.Views.{method_of}
-use Rattle.p8_kinds.specs.ConstantEntries.{setting_of}
-use Rattle.p8_kinds.specs.Meanings.{Setting}
+use Rattle.p8_fold.specs.ConstantEntries.{setting_of}
+use Rattle.p8_fold.specs.Meanings.{Setting}
 use Rattle.p8_constants.proofs.Listed.{rest_is}
 use Rattle.p8_constants.proofs.FirstFaults.{IsSoFar, so_far_then}
 use Rattle.p8_kinds.specs.FileSettings.{meaning_of_kind}

@@ -1,6 +1,6 @@
 use Rattle.std.proofs.Common.{◌≡◌, map, drop}
 use Rattle.p8_tree.specs.Views.{method_of}
-use Rattle.p8_kinds.specs.ConstantEntries.{setting_of}
+use Rattle.p8_fold.specs.ConstantEntries.{setting_of}
 use Rattle.p8_constants.proofs.FirstFaults.{IsSoFar}
 use Rattle.p8_names.specs.Faults.{InMethods}
 use Rattle.p8_names.specs.Looking.{IsFaultIn}

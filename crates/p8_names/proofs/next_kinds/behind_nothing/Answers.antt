@@ -1,4 +1,4 @@
-use Rattle.p8_kinds.specs.ConstantEntries.{setting_of}
+use Rattle.p8_fold.specs.ConstantEntries.{setting_of}
 use Rattle.p8_constants.specs.Standing.{item_of}
 use Rattle.p8_names.proofs.Advancing.{nothing_more}
 use Rattle.p8_names.proofs.next_kinds.behind_nothing.Goals as goal

@@ -1,7 +1,7 @@
 use Rattle.std.proofs.Common.{◌+◌, ◌==◌, ◌∙◌, ap, arith}
 use Rattle.std.specs.Prelude.{min, if◌then◌else◌}
 use Rattle.p8_tree.specs.Views.{declared_of}
-use Rattle.p8_kinds.specs.ConstantEntries.{setting_of}
+use Rattle.p8_fold.specs.ConstantEntries.{setting_of}
 use Rattle.p8_constants.specs.FileItems.{variable}
 use Rattle.p8_names.specs.Kinds.{greatest_offset, greatest_number}
 use Rattle.p8_names.proofs.Advancing.{next_more, same_number}

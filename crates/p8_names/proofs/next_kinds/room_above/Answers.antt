@@ -1,5 +1,5 @@
 use Rattle.std.proofs.Common.{◌≤◌, arith}
-use Rattle.p8_kinds.specs.ConstantEntries.{setting_of}
+use Rattle.p8_fold.specs.ConstantEntries.{setting_of}
 use Rattle.p8_constants.proofs.Walking.{item_is}
 use Rattle.p8_names.specs.Counting.{HasSize}
 use Rattle.p8_names.specs.Kinds.{greatest_offset}

@@ -1,5 +1,5 @@
 use Rattle.std.proofs.Common.{Some, None, ◌∙◌}
-use Rattle.p8_kinds.specs.ConstantEntries.{setting_of}
+use Rattle.p8_fold.specs.ConstantEntries.{setting_of}
 use Rattle.p8_constants.specs.Standing.{items_of, valued}
 use Rattle.p8_names.proofs.Objects.{outside_is}
 use Rattle.p8_names.proofs.outside.outside.Goals as goal

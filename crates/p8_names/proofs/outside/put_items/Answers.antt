@@ -1,5 +1,5 @@
 use Rattle.std.proofs.Common.{arith}
-use Rattle.p8_kinds.specs.ConstantEntries.{setting_of}
+use Rattle.p8_fold.specs.ConstantEntries.{setting_of}
 use Rattle.p8_names.proofs.Putting.{items_begin, items_more, items_end}
 use Rattle.p8_names.proofs.outside.put_items.Goals as goal
 

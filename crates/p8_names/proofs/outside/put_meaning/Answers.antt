@@ -1,5 +1,5 @@
 use Rattle.std.proofs.Common.{sym, subst, Some}
-use Rattle.p8_kinds.specs.ConstantEntries.{setting_of}
+use Rattle.p8_fold.specs.ConstantEntries.{setting_of}
 use Rattle.p8_names.specs.Changes.{IsPut}
 use Rattle.p8_names.proofs.Putting.{on_ok, is_put}
 use Rattle.p8_names.proofs.outside.put_meaning.Goals as goal

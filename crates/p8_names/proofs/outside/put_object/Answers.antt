@@ -1,6 +1,6 @@
 use Rattle.std.proofs.Common.{[], ◌∷◌, ◌++◌, subst}
 use Rattle.p8_constants.specs.Standing.{Holds}
-use Rattle.p8_kinds.specs.ConstantEntries.{setting_of}
+use Rattle.p8_fold.specs.ConstantEntries.{setting_of}
 use Rattle.p8_names.proofs.Objects.{one_object}
 use Rattle.p8_names.proofs.outside.put_object.Goals as goal
 

@@ -2,8 +2,8 @@ use Rattle.std.proofs.Common.{[], ◌++◌, refl, ap, ◌∙◌, arith}
 use Rattle.std.specs.Prelude.{option_map}
 use Rattle.std.specs.Map.{lookup}
 use Rattle.std.specs.Str.{bytes_eq}
-use Rattle.p8_kinds.specs.declared.meanings.Meaning.TheVariants.{Value}
-use Rattle.p8_kinds.specs.ConstantEntries.{setting_of}
+use Rattle.p8_fold.specs.declared.meanings.Meaning.TheVariants.{Value}
+use Rattle.p8_fold.specs.ConstantEntries.{setting_of}
 use Rattle.p8_constants.specs.Standing.{item_of, items_of}
 use Rattle.p8_names.specs.Settings.{object_with, constant_of_child, with_children}
 use Rattle.p8_names.proofs.Objects.{objects_begin, same_begin, next_children, last_children, same_then}

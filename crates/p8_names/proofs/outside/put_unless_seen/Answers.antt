@@ -1,6 +1,6 @@
 use Rattle.std.proofs.Common.{map, subst}
 use Rattle.std.specs.Prelude.{IsTrue, Contains, ◌↔◌}
-use Rattle.p8_kinds.specs.ConstantEntries.{setting_of}
+use Rattle.p8_fold.specs.ConstantEntries.{setting_of}
 use Rattle.p8_names.proofs.Putting.{on_ok, behind_is}
 use Rattle.p8_names.proofs.Objects.{seen_before, seen_first}
 use Rattle.p8_names.proofs.outside.put_unless_seen.Goals as goal

@@ -3,7 +3,7 @@ use Rattle.std.specs.Prelude.{min}
 use Rattle.std.specs.Map.{lookup}
 use Rattle.std.specs.Str.{bytes_eq}
 use Rattle.p8_tree.specs.Views.{declared_of}
-use Rattle.p8_kinds.specs.ConstantEntries.{setting_of}
+use Rattle.p8_fold.specs.ConstantEntries.{setting_of}
 use Rattle.p8_kinds.specs.Kinds.{own, or_else}
 use Rattle.p8_names.specs.Kinds.{greatest_offset, local_kinds}
 use Rattle.p8_names.proofs.own_kinds.enter_locals.Given as goal

@@ -1,7 +1,7 @@
 use Rattle.std.proofs.Common.{◌+◌, ◌*◌, ◌++◌, length, map, ap, ◌∙◌, subst}
 use Rattle.std.specs.Prelude.{min}
 use Rattle.p8_tree.specs.Views.{method_of, declared_of}
-use Rattle.p8_kinds.specs.ConstantEntries.{setting_of}
+use Rattle.p8_fold.specs.ConstantEntries.{setting_of}
 use Rattle.p8_names.specs.Kinds.{greatest_offset, param_kinds, result_kind, local_kinds}
 use Rattle.p8_names.specs.Counting.{AreEnteredAt}
 use Rattle.p8_names.proofs.OwnNames.{then_entered}

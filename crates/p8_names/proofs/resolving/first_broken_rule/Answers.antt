@@ -1,5 +1,5 @@
 use Rattle.std.proofs.Common.{◌⊎◌, subst}
-use Rattle.p8_kinds.specs.ConstantEntries.{setting_of}
+use Rattle.p8_fold.specs.ConstantEntries.{setting_of}
 use Rattle.p8_constants.specs.Standing.{items_of, IsFirstOf}
 use Rattle.p8_names.specs.Resolving.{RepeatInFile, BrokenByItems, MisusedBy}
 use Rattle.p8_names.proofs.TwoFaults.{two_first}

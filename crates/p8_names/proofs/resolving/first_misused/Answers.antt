@@ -2,7 +2,7 @@ use Rattle.std.proofs.Common.{◌≡◌, map, Bor, ap, ◌∙◌, subst}
 use Rattle.p8_tree.specs.declared.sources.Method.{Method}
 use Rattle.p8_tree.specs.Sources.{MethodTree}
 use Rattle.p8_tree.specs.Views.{method_of}
-use Rattle.p8_kinds.specs.ConstantEntries.{setting_of}
+use Rattle.p8_fold.specs.ConstantEntries.{setting_of}
 use Rattle.p8_constants.specs.Standing.{items_of, IsFirstOf}
 use Rattle.p8_names.specs.Kinds.{numbered}
 use Rattle.p8_names.specs.Faults.{InMethods, UnknownInLines, labels_ahead}

@@ -1,5 +1,5 @@
 use Rattle.std.proofs.Common.{◌∙◌, subst}
-use Rattle.p8_kinds.specs.ConstantEntries.{setting_of, at_bytes}
+use Rattle.p8_fold.specs.ConstantEntries.{setting_of, at_bytes}
 use Rattle.p8_constants.specs.Rows.{rows_from, IsNameEntered}
 use Rattle.p8_constants.proofs.Growing.{entered_more}
 use Rattle.p8_constants.proofs.evaluation.Evaluation.enter_all.Goals as goal

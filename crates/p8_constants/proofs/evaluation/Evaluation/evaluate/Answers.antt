@@ -2,7 +2,7 @@ use Rattle.std.proofs.Common.{◌≡◌, ◌∙◌, ◌*◌, ◌-◌, ◌<◌, �
 use Rattle.std.specs.Prelude.{option_map}
 use Rattle.std.proofs.lemmas.List.{get_or_read}
 use Rattle.p8_tree.specs.Views.{tree_of}
-use Rattle.p8_kinds.specs.ConstantEntries.{setting_of, at_bytes}
+use Rattle.p8_fold.specs.ConstantEntries.{setting_of, at_bytes}
 use Rattle.p8_constants.specs.Rows.{rows_from, expression_at}
 use Rattle.p8_constants.proofs.Stepping.{counter_step, nothing_step, expression_step, together}
 use Rattle.p8_constants.proofs.evaluation.Evaluation.evaluate.Goals as goal

@@ -1,6 +1,6 @@
 use Rattle.std.proofs.Common.{◌∙◌, Some, ap, sym, subst}
 use Rattle.p8_tree.specs.Views.{tree_of}
-use Rattle.p8_kinds.specs.ConstantEntries.{setting_of}
+use Rattle.p8_fold.specs.ConstantEntries.{setting_of}
 use Rattle.p8_constants.specs.Rows.{Joins, refused, with_first}
 use Rattle.p8_constants.proofs.evaluation.Evaluation.fold.Goals as goal
 

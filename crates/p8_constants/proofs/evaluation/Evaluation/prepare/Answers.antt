@@ -1,6 +1,6 @@
 use Rattle.std.proofs.Common.{◌<◌, map, length, ap, arith}
 use Rattle.std.proofs.lemmas.List.{length-map}
-use Rattle.p8_kinds.specs.ConstantEntries.{setting_of, at_bytes}
+use Rattle.p8_fold.specs.ConstantEntries.{setting_of, at_bytes}
 use Rattle.p8_constants.proofs.Growing.{prepared_more, name_read}
 use Rattle.p8_constants.proofs.evaluation.Evaluation.prepare.Goals as goal
 

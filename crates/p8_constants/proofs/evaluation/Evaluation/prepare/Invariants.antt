@@ -1,5 +1,5 @@
 use Rattle.std.proofs.Common.{◌≡◌, take, map}
-use Rattle.p8_kinds.specs.ConstantEntries.{setting_of, at_bytes}
+use Rattle.p8_fold.specs.ConstantEntries.{setting_of, at_bytes}
 use Rattle.p8_constants.specs.Rows.{IsPrepared}
 use Rattle.p8_constants.proofs.evaluation.Evaluation.prepare.Given as goal
 

@@ -1,5 +1,5 @@
 use Rattle.std.proofs.Common.{◌≡◌, ◌∙◌, rules}
-use Rattle.p8_kinds.proofs.Bytes.{at_others}
+use Rattle.p8_fold.proofs.Bytes.{at_others}
 use Rattle.p8_constants.proofs.index.Index.insert.Goals as goal
 
 pub returns-clause-others : goal.returns-clause-others

@@ -1,7 +1,7 @@
 use Rattle.std.proofs.Common.{◌∙◌, ◌<◌, length, ap, sym, arith, take}
 use Rattle.std.specs.Prelude.{option_map}
 use Rattle.std.proofs.lemmas.List.{length-map}
-use Rattle.p8_kinds.specs.ConstantEntries.{setting_of}
+use Rattle.p8_fold.specs.ConstantEntries.{setting_of}
 use Rattle.p8_constants.specs.Rows.{rows_from, row_from, row_at, node_of, constant_at, or_else, named_here}
 use Rattle.p8_constants.proofs.Rowing.{index_more}
 use Rattle.p8_constants.proofs.index.Index.of_rows.Goals as goal

@@ -1,6 +1,6 @@
 use Rattle.std.proofs.Common.{◌≡◌, ℕ, List, take}
 use Rattle.std.specs.Prelude.{option_map}
-use Rattle.p8_kinds.specs.ConstantEntries.{setting_of, at_bytes}
+use Rattle.p8_fold.specs.ConstantEntries.{setting_of, at_bytes}
 use Rattle.p8_constants.specs.Rows.{rows_from, node_of, constant_at}
 use Rattle.p8_constants.proofs.index.Index.of_rows.Given as goal
 

@@ -1,6 +1,6 @@
 use Rattle.std.proofs.Common.{◌≡◌, ◌∙◌, Some, rules}
-use Rattle.p8_kinds.specs.ConstantEntries.{at_bytes}
-use Rattle.p8_kinds.proofs.Bytes.{at_others}
+use Rattle.p8_fold.specs.ConstantEntries.{at_bytes}
+use Rattle.p8_fold.proofs.Bytes.{at_others}
 use Rattle.p8_constants.proofs.Sets.{one_more}
 use Rattle.p8_constants.proofs.name_set.NameSet.put.Goals as goal
 

@@ -4,7 +4,7 @@ use Rattle.p8_tree.specs.declared.expressions.Call.{out-Call}
 use Rattle.p8_tree.specs.Expressions.{node, Var, Named, no_items, ◌▸◌}
 use Rattle.p8_tree.specs.Views.{form_of, tree_of, variable_of, trees_of, item_of, items_of}
 use Rattle.p8_tree.specs.Bridges.{boxed_index}
-use Rattle.p8_kinds.proofs.ValueRows.{call_form}
+use Rattle.p8_fold.proofs.ValueRows.{call_form}
 use Rattle.p8_gen.specs.Pieces.{up_to_end, one}
 use Rattle.p8_gen.specs.Variables.{Push, memory_op, home_of}
 use Rattle.p8_gen.specs.Expressions.{mark, value, value_of_form, operate, in_home, pushed_home, values, index_value, callee, call_of_built, arguments, looks, counts_from, looks_down}

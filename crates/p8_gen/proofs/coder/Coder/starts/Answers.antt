@@ -2,7 +2,7 @@ use Rattle.std.proofs.Common.{OnOk, sym, ap, ◌∙◌, subst, rules}
 use Rattle.p8_tree.specs.Expressions.{node}
 use Rattle.p8_tree.specs.Views.{form_of}
 use Rattle.p8_tree.specs.declared.expressions.Call.{out-Call}
-use Rattle.p8_kinds.proofs.ValueRows.{call_form}
+use Rattle.p8_fold.proofs.ValueRows.{call_form}
 use Rattle.p8_gen.proofs.Rows.{counts}
 use Rattle.p8_gen.specs.Expressions.{starts}
 use Rattle.p8_gen.specs.Scopes.{names_of}

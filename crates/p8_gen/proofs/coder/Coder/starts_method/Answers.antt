@@ -1,7 +1,7 @@
 use Rattle.std.proofs.Common.{◌≡◌, sym, ap, ◌∙◌, subst, rules}
 use Rattle.p8_tree.specs.Expressions.{node}
 use Rattle.p8_tree.specs.Views.{form_of}
-use Rattle.p8_kinds.proofs.ValueRows.{call_form}
+use Rattle.p8_fold.proofs.ValueRows.{call_form}
 use Rattle.p8_gen.specs.Expressions.{starts_method}
 use Rattle.p8_gen.specs.Scopes.{names_of}
 use Rattle.p8_gen.proofs.coder.Coder.starts_method.Goals as goal

@@ -1,6 +1,6 @@
 use Rattle.std.proofs.Common.{arith}
 use Rattle.p8_tree.specs.Views.{named_sources_of}
-use Rattle.p8_kinds.specs.ConstantEntries.{at_bytes}
+use Rattle.p8_fold.specs.ConstantEntries.{at_bytes}
 use Rattle.p8_names.proofs.Numbering.{entered, item_named, all_numbered}
 use Rattle.p8_names.proofs.numbers.Numbers.of_project.Goals as goal
 

@@ -1,5 +1,5 @@
 use Rattle.p8_tree.specs.Views.{named_sources_of}
-use Rattle.p8_kinds.specs.ConstantEntries.{at_bytes}
+use Rattle.p8_fold.specs.ConstantEntries.{at_bytes}
 use Rattle.p8_names.specs.Finding.{HasNumbers}
 use Rattle.p8_names.proofs.numbers.Numbers.of_project.Given as goal
 
