@@ -87,7 +87,7 @@ def pasm(code, others=""):
     data = f"        org 0\nothers{others}\n" if others else ""
     return (
         f"PUB main\n{starts}  coginit(0, @code, 0)\nDAT\n        org 0\ncode{code}\n"
-        f"x       long 0\na       long 0\none     long 1\n{data}"
+        f"x       long 0\na       long 0\n{data}"
     )
 
 

@@ -302,8 +302,8 @@ def heads_of(content):
 
 
 def with_local(line, text, names):
-    """What is due of a line of a view that tells a local of the method in its place, in a frame without a name or in a variable that is a stack; else what is due."""
-    due = re.fullmatch(r"(.* (?:read|write) (?:byte|word|long) )\S+( = .*)", text)
+    """What is due of a line of a view that tells a local of the method in its place, where an address without a name or a stack is due; else that."""
+    due = re.fullmatch(r"(.* (?:read|write) (?:byte|word|long) )(?:[0-9A-F]{4}|(?:\S+\.)?stack(?:\+\d+)?)( = .*)", text)
     told = re.fullmatch(r".* (?:read|write) (?:byte|word|long) (\w+\.\w+)((?:\+\d+)?) = .* (\w+)", line)
     if not due or not told or told[1] not in names.locals or told[1].split(".")[0] != told[3]:
         return text
