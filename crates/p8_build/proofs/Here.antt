@@ -1,5 +1,5 @@
 -- What one file comes to.
-use Rattle.std.proofs.Common.{◌≡◌, ℕ, ◌+◌, ◌*◌, ◌==◌, Bool, List, [], length, slice_get, Some, refl, ap, sym, ◌∙◌, subst}
+use Rattle.std.proofs.Common.{◌≡◌, ℕ, ◌+◌, ◌*◌, ◌==◌, Bool, List, [], length, map, slice_get, Some, refl, ap, sym, ◌∙◌, subst}
 use Rattle.std.specs.Prelude.{Result, Ok, Err, IfErr}
 use Rattle.p8_tree.specs.Sources.{MethodTree, Source}
 use Rattle.p8_tree.specs.Projects.{NamedSource}
@@ -23,6 +23,7 @@ use Rattle.p8_names.specs.Resolution.{IsNamed}
 use Rattle.p8_dat.specs.declared.assembling.Dat.{Dat}
 use Rattle.p8_dat.specs.Blocks.{placed_lines, dat_bytes, IsDatFault}
 use Rattle.p8_dat.specs.Labels.{labels_of}
+use Rattle.p8_dat.specs.Lines.{begin_of}
 use Rattle.p8_gen.specs.declared.coder.Tables.{Tables}
 use Rattle.p8_gen.specs.Files.{first_offset}
 use Rattle.p8_gen.specs.Labels.{offset_in}
@@ -35,7 +36,7 @@ use Rattle.p8_build.specs.Parts.{data_start}
 use Rattle.p8_build.specs.Faults.{in_phase, IsToldOf}
 use Rattle.p8_build.specs.Sizes.{IsSizeOf}
 use Rattle.p8_build.specs.Told.{IsRefusal}
-use Rattle.p8_build.specs.Files.{CompiledFile, IsData, names_with}
+use Rattle.p8_build.specs.Files.{CompiledFile, IsData, line_begins, names_with}
 use Rattle.p8_build.specs.Builds.{IsFile}
 use Rattle.p8_build.specs.Coding.{AreAllCodes, IsCodeRefusal}
 use Rattle.p8_build.specs.Accepted.{compiled_file, methods_of, HasTables}
@@ -71,6 +72,9 @@ module _ (source : Source) (children : Children) (n : Named) (file : source_of n
     bytes = here (λ t c k. d.bytes ≡ dat_bytes (file_setting n.kinds c) k t) bytes;
     labels = here (λ t c k. d.labels ≡ labels_of n.kinds (placed_lines (file_setting n.kinds c) k t)) labels;
   }
+
+  pub lines_are : (d : Dat) → d.lines ≡ map begin_of (placed_lines (file_setting n.kinds n.children.now) start (source_of n.file.now)) → d.lines ≡ line_begins (file_setting n.kinds children) source
+  lines_are d lines = here (λ t c k. d.lines ≡ map begin_of (placed_lines (file_setting n.kinds c) k t)) lines
 
 -- ---- its code
 

@@ -23,7 +23,7 @@ use Rattle.p8_stmt.specs.declared.code.MethodCode.{MethodCode}
 use Rattle.p8_build.specs.declared.accepting.AcceptedFile.{AcceptedFile}
 use Rattle.p8_build.specs.declared.building.Accepted.{Accepted}
 use Rattle.p8_build.specs.declared.building.Built.{Built}
-use Rattle.p8_build.specs.Files.{CompiledFile}
+use Rattle.p8_build.specs.Files.{CompiledFile, line_begins}
 use Rattle.p8_build.specs.Builds.{IsFile, AreCompiled, objects_of, clock_by}
 
 -- ---- a file
@@ -39,7 +39,7 @@ compiled_file f = recoded_file f f.codes
 abbrev pub methods_of : AcceptedFile → List MethodTree
 methods_of f = map (λ m. method_of m.now) f.methods
 
--- a file has its tree, its items, its methods in the order of their numbers, and the tables of its names
+-- a file has its tree, its items, its methods in the order of their numbers, the tables of its names, and where the lines of its DAT begin
 pub record HasTables (source : Source) (children : Children) (f : AcceptedFile) : Type 0 where
   pub tree : source_of f.file.now ≡ source
   pub items_are : items_of f.items ≡ items source
@@ -47,6 +47,7 @@ pub record HasTables (source : Source) (children : Children) (f : AcceptedFile) 
   pub publics : (item : ℕ) (name : List ℕ) → own f.tables.publics item name ≡ public_of children item name
   pub consts : setting_of f.tables.consts ≡ file_setting f.kinds children
   pub labels : (name : List ℕ) → offset_in f.tables.labels name ≡ first_offset f.dat.labels name
+  pub lines : f.dat.lines ≡ line_begins (file_setting f.kinds children) source
 
 -- ---- a project
 

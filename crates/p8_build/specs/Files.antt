@@ -1,5 +1,5 @@
 -- What the files of a project are compiled to, and what of a file can't be (this project's profile).
-use Rattle.std.specs.Prelude.{◌≡◌, ℕ, ◌+◌, Bool, true, false, nat_lt, ◌||◌, List, length, slice_get, Some}
+use Rattle.std.specs.Prelude.{◌≡◌, ℕ, ◌+◌, Bool, true, false, nat_lt, ◌||◌, List, length, map, slice_get, Some}
 use Rattle.p8_tree.specs.Sources.{MethodTree, Source}
 use Rattle.p8_tree.specs.Projects.{NamedSource}
 use Rattle.p8_tree.specs.declared.faults.Fault.{Fault}
@@ -15,6 +15,8 @@ use Rattle.p8_names.specs.Kinds.{numbered, objects, instances}
 use Rattle.p8_names.specs.Resolution.{IsNamed}
 use Rattle.p8_dat.specs.Blocks.{placed_lines, dat_bytes, IsDatFault}
 use Rattle.p8_dat.specs.Labels.{labels_of}
+use Rattle.p8_dat.specs.Lines.{begin_of}
+use Rattle.p8_dat.specs.declared.assembling.LineBegin.{LineBegin}
 use Rattle.p8_gen.specs.Names.{Names}
 use Rattle.p8_gen.specs.Files.{names_in}
 use Rattle.p8_gen.specs.Scopes.{names_from}
@@ -40,6 +42,10 @@ pub record IsData (source : Source) (children : Children) (x : CompiledFile) : T
   pub clean : (f : Fault) → ¬ IsDatFault (setting_of children x) (data_start (setting_of children x) source) source f
   pub bytes : x.dat ≡ dat_bytes (setting_of children x) (data_start (setting_of children x) source) source
   pub labels : x.labels ≡ labels_of x.kinds (placed_lines (setting_of children x) (data_start (setting_of children x) source) source)
+
+-- where the lines of its DAT begin
+abbrev pub line_begins : Setting → Source → List LineBegin
+line_begins s source = map begin_of (placed_lines s (data_start s source) source)
 
 -- ---- its code
 

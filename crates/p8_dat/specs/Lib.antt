@@ -10,6 +10,7 @@ pub mod Bytes
 pub mod Faults
 pub mod Blocks
 pub mod Labels
+pub mod Lines
 -- What the code computes, the first fault at once, and what its lists stand for: internal.
 pub mod First
 pub mod Placing

@@ -18,7 +18,7 @@ mod regions;
 mod spots;
 mod values;
 
-pub use assembling::{Dat, DatFault, assemble};
+pub use assembling::{Dat, DatFault, LineBegin, assemble};
 pub use instruction_lines::{Encoded, encode_line};
 pub use laws::{nop_is_zero, printed_line_is_assembled};
 pub use spots::Spot;

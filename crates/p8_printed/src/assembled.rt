@@ -64,8 +64,15 @@ fn bytes_of(alloc: Global, long: u32, named: &Named<'_>) -> Result<Text, Fail<Fa
     ensures accepted { IfErr result IsNotRefused }
 {
     match assemble(alloc, named, START) {
-        Ok(Dat { bytes, labels }) => {
+        Ok(
+            Dat {
+                bytes,
+                labels,
+                lines,
+            },
+        ) => {
             drop(labels);
+            drop(lines);
             Ok(bytes)
         }
         Err(fail) => Err(fail),

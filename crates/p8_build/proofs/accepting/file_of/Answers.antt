@@ -14,7 +14,7 @@ use Rattle.p8_build.specs.Coding.{AreAllCodes}
 use Rattle.p8_build.specs.Phases.{IfPhaseRefused, IsFirstOfFile}
 use Rattle.p8_build.proofs.Lists.{told}
 use Rattle.p8_build.proofs.WholeCode.{ready_by}
-use Rattle.p8_build.proofs.Here.{compiled, start_is, data_refused, data_is, code_refused_here, file_accepted}
+use Rattle.p8_build.proofs.Here.{compiled, start_is, data_refused, data_is, lines_are, code_refused_here, file_accepted}
 use Rattle.p8_build.proofs.accepting.file_of.Goals as goal
 
 abbrev trees : List (Bor Method) → List MethodTree
@@ -79,8 +79,9 @@ returns-clause-accepted c =
     (many ∙ sym (length-map c.in_ok-methods.methods.items (λ m. method_of m.now))) methods count c.in_ok-consts.ensures in
     let d = c.in-Ok-assemble.dat in
     let data_of = data_is source seen n (ap source_of c.in-Ok.ensures.file) c.in-Ok.ensures.children c.in_ok-start.start start d in
+    let lines = lines_are source seen n (ap source_of c.in-Ok.ensures.file) c.in-Ok.ensures.children c.in_ok-start.start start d c.in-Ok-assemble.ensures.lines in
     let items_are = ap items_of c.from_vec.ensures ∙ c.in_ok-items.ensures in
     let methods_are = ap trees c.from_vec-2.ensures ∙ methods in
     file_accepted source seen (c.args.index == 0) _ c.in_ok-instances.instances c.in-Ok.ensures.named (data_of c.in_ok-codes.codes c.in-Ok-assemble.ensures.bytes c.in-Ok-assemble.ensures.labels c.in-Ok-assemble.ensures.clean)
-    (record { tree = refl; items_are = items_are; methods_are = methods_are; publics = c.in_ok-publics_of.ensures; consts = c.in_ok-consts.ensures; labels = (λ name. c.in_ok-of.ensures name ∙ ap (λ ls. first_offset ls name) c.as_slice.ensures) })
+    (record { tree = refl; items_are = items_are; methods_are = methods_are; publics = c.in_ok-publics_of.ensures; consts = c.in_ok-consts.ensures; labels = (λ name. c.in_ok-of.ensures name ∙ ap (λ ls. first_offset ls name) c.as_slice.ensures); lines = lines })
     count (subst (λ (ms : List MethodTree). AreAllCodes (names_with n.kinds (record { publics = c.in_ok-publics_of.field-0; consts = consts; labels = c.in_ok-of.field-0 })) c.in_ok-instances.instances ms c.in_ok-codes.codes) (ap trees (c.deref-3.ensures.value ∙ sym c.from_vec-2.ensures)) c.in_ok-codes.ensures.codes)
