@@ -23,7 +23,7 @@ use Rattle.p8_cog.specs.Replay.{instruction, played, Outcome, Asks, Goes, Ends, 
 use Rattle.p8_cog.specs.Replay.{BeginsAt, Begins}
 use Rattle.p8_cog.specs.Standing.{turns_of, running_at, standing_at, IsReading, StandsIn, StandsFor, clock_in, clock_of}
 use Rattle.p8_cog.specs.Stops.{IsFrom, is_half, IsHalf, IsInLoad, Comes, Announces, is_access, asked_of, asked_now, announced_at, Stops, Leads}
-use Rattle.p8_cog.specs.Stops.{IsSpent, IsTold, Loads, Takes}
+use Rattle.p8_cog.specs.Stops.{IsSpent, IsTold, Loads, Takes, is_asking}
 use Rattle.p8_cog.specs.Replaying.{on-time, begin-asks, after-one, after-plus, after-asks, step-from, after-from, turn-kept, turn-taken, not-before}
 use Rattle.p8_cog.specs.Reaching.{begin-near, last-ends, ended-behind}
 
@@ -147,6 +147,13 @@ pub announces-same : (cog code : ℕ) (stage : Stage) (p : Progress) (one other 
     Announces cog code stage p other → Announces cog code stage p one
 announces-same cog code stage p one other is announces = subst (Announces cog code stage p) (sym is) announces
 
+-- where an access is told one is asked
+pub told-asks : (cog code reached until : ℕ) (stage : Stage) (p : Progress) (next : Next) (asking : Bool) → asking ≡ is_access next →
+    Stops cog (standing_at stage code p) reached until next → asking ≡ true → is_asking (step cog (standing_at stage code p)) ≡ true
+told-asks cog code reached until stage p (At clock access) asking is stops told = ap is_asking stops.0
+told-asks cog code reached until stage p Quiet asking is stops told = absurd (let x : false ≡ true = sym is ∙ told in cc)
+told-asks cog code reached until stage p (More bound) asking is stops told = absurd (let x : false ≡ true = sym is ∙ told in cc)
+
 -- a life that runs isn't in a load
 pub not-in-load : (stage : Stage) (p : Progress) → stage ≡ Running → stage ≡ Loading → IsInLoad p
 not-in-load stage p is e = absurd (let x : Running ≡ Loading = sym is ∙ e in cc)
@@ -213,9 +220,10 @@ placed done cog code stage p (SpinBegun entered) ts stands live = absurd stands
 
 -- a running cog stands where its replay has come
 runs : (done cog code : ℕ) (stage : Stage) (p : Progress) (loaded : Loaded) (ts : List Turn) → stage ≡ Running → loaded.cog ≡ cog →
-    replayed done loaded ts ≡ running_at p → StandsIn done cog code stage p loaded ts
-runs done cog code stage p loaded ts is own reached = record {
+    loaded.code ≡ code → replayed done loaded ts ≡ running_at p → StandsIn done cog code stage p loaded ts
+runs done cog code stage p loaded ts is own from reached = record {
   own = own;
+  from = from;
   reached = reached ∙ ap (λ (s : Stage). standing_at s code p) (sym is);
   fresh = λ e. absurd (let x : Loading ≡ Running = sym e ∙ is in cc);
   reads = λ e. absurd (let x : Loading ≡ Running = sym e ∙ is in cc);
@@ -226,7 +234,7 @@ runs done cog code stage p loaded ts is own reached = record {
 pub led : (done more cog code : ℕ) (stage : Stage) (p new : Progress) → stage ≡ Running → Leads cog more (running_at p) (running_at new) →
     (b : Begun) (ts : List Turn) → StandsFor done cog code stage p b ts → StandsFor (done + more) cog code stage new b ts
 led done more cog code stage p new is leads (PasmBegun loaded) ts stands =
-    runs (done + more) cog code stage new loaded ts is stands.own
+    runs (done + more) cog code stage new loaded ts is stands.own stands.from
     (ap (λ (n : ℕ). after n (done + more) (loaded_by loaded ts)) stands.own
     ∙ leads done _ (ap (λ (n : ℕ). after n done (loaded_by loaded ts)) (sym stands.own) ∙ stands.reached ∙ ap (λ (s : Stage). standing_at s code p) is))
 led done more cog code stage p new is leads (SpinBegun entered) ts stands = absurd stands
@@ -360,6 +368,7 @@ pub over-stands : (done cog code : ℕ) (stage : Stage) (p new : Progress) (turn
     StandsFor (done + 1) cog code Over new b (ts ++ turn ∷ [])
 over-stands done cog code stage p new turn is turns takes (PasmBegun loaded) ts stands = record {
   own = stands.own;
+  from = stands.from;
   reached = takes-turn done cog p loaded ts turn stands.own (stands.reached ∙ ap (λ (s : Stage). standing_at s code p) is) ∙ takes.0;
   fresh = λ e. absurd (let x : Over ≡ Loading = e in cc);
   reads = λ e. absurd (let x : Over ≡ Loading = e in cc);
@@ -370,7 +379,7 @@ over-stands done cog code stage p new turn is turns takes (SpinBegun entered) ts
 pub whole-stands : (done cog code : ℕ) (stage : Stage) (p new : Progress) (turn : Turn) → stage ≡ Running → Takes cog p turn new Whole →
     (b : Begun) (ts : List Turn) → StandsFor done cog code stage p b ts → StandsFor (done + 1) cog code stage new b (ts ++ turn ∷ [])
 whole-stands done cog code stage p new turn is takes (PasmBegun loaded) ts stands =
-    runs (done + 1) cog code stage new loaded (ts ++ turn ∷ []) is stands.own
+    runs (done + 1) cog code stage new loaded (ts ++ turn ∷ []) is stands.own stands.from
     (takes-turn done cog p loaded ts turn stands.own (stands.reached ∙ ap (λ (s : Stage). standing_at s code p) is) ∙ takes.0)
 whole-stands done cog code stage p new turn is takes (SpinBegun entered) ts stands = absurd stands
 
@@ -378,7 +387,7 @@ pub half-stands : (done cog code : ℕ) (stage : Stage) (p new : Progress) (turn
     running_at new ≡ Goes p.begun (turns_of p.had ++ turn ∷ []) → (b : Begun) (ts : List Turn) → StandsFor done cog code stage p b ts →
     StandsFor done cog code stage new b (ts ++ turn ∷ [])
 half-stands done cog code stage p new turn is keeps (PasmBegun loaded) ts stands =
-    runs done cog code stage new loaded (ts ++ turn ∷ []) is stands.own
+    runs done cog code stage new loaded (ts ++ turn ∷ []) is stands.own stands.from
     (turn-kept done loaded ts turn p.begun (turns_of p.had) (stands.reached ∙ ap (λ (s : Stage). standing_at s code p) is) ∙ sym keeps)
 half-stands done cog code stage p new turn is keeps (SpinBegun entered) ts stands = absurd stands
 
@@ -400,6 +409,7 @@ reads-on : (done cog code : ℕ) (p : Progress) (loaded : Loaded) (ts : List Tur
 unfolding after
 reads-on done cog code p loaded ts own none r = record {
   own = own;
+  from = r.own;
   reached = ap (λ (n : ℕ). replayed n loaded ts) none ∙ reading-asks code p.begun loaded ts r;
   fresh = λ e. none;
   reads = λ e. r;
@@ -486,7 +496,7 @@ load-by done cog code Loading old new loaded ts turn own none r loads =
     reads-on done cog code new loaded (ts ++ turn ∷ []) own none
     (read-more code old new loaded ts turn r.longs r.to_come r r.held r.count r.all r.goes_on loads)
 load-by done cog code Running old new loaded ts turn own none r loads =
-    runs done cog code Running new loaded (ts ++ turn ∷ []) refl own
+    runs done cog code Running new loaded (ts ++ turn ∷ []) refl own r.own
     (ap (λ (n : ℕ). replayed n loaded (ts ++ turn ∷ [])) none ∙ read-last old new loaded ts turn r.longs r.to_come r.par r.clock r.held r.all r.goes_on loads)
 load-by done cog code Over old new loaded ts turn own none r loads = absurd loads
 

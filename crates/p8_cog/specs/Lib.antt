@@ -2,6 +2,7 @@
 pub mod Instructions
 pub mod Replay
 pub mod Standing
+pub mod Counters
 pub mod Whole
 pub mod Lives
 pub mod Kinds

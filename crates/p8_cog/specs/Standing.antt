@@ -44,6 +44,7 @@ pub record IsReading (code : ℕ) (state : State) (loaded : Loaded) (turns : Lis
 -- the replay of this life with these turns has come here after so many instructions
 pub record StandsIn (done cog code : ℕ) (stage : Stage) (progress : Progress) (loaded : Loaded) (turns : List Turn) : Type 0 where
   pub own : loaded.cog ≡ cog
+  pub from : loaded.code ≡ code
   pub reached : replayed done loaded turns ≡ standing_at stage code progress
   pub fresh : stage ≡ Loading → done ≡ 0
   pub reads : stage ≡ Loading → IsReading code progress.begun loaded turns

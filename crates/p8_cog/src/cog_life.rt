@@ -3,7 +3,8 @@ ghost use Rattle.std.specs.Prelude.{List, ◌≡◌, ◌<◌, ◌≤◌, ◌+◌
 ghost use Rattle.p8_access.specs.declared.order.Turn.{Turn};
 ghost use Rattle.p8_access.specs.Lives.{Begun};
 ghost use Rattle.p8_access.specs.Windows.{IsWindow};
-ghost use Rattle.p8_bcog.specs.Counters.{IsAnnouncing, IsCounter};
+ghost use Rattle.p8_bcog.specs.Counters.{IsAnnouncing};
+ghost use Rattle.p8_cog.specs.Counters.{IsCounterOf};
 ghost use Rattle.p8_cog.specs.Lives.{asks, begins, begun_by, IsStartable};
 ghost use Rattle.p8_cog.specs.Kinds.{number_of, access_of, fact_of};
 ghost use Rattle.p8_cog.specs.Laws.{one-asked, asked-first, asked-later, paced};
@@ -82,16 +83,17 @@ impl CogLife {
         }
     }
 
-    /// The program counter of the access that is announced: for Spin the hub address, in bytes, of the first byte of
-    /// the bytecode that asks it. `None` where nothing is announced, for the write with which Spin enters its
-    /// method, which no bytecode asks, and for PASM.
-    pub fn counter(&self) -> Option<u16>
+    /// The counter of the access that is announced: for Spin the hub address, in bytes, of the first byte of the bytecode that asks it, and for
+    /// PASM that from which the long was loaded that asks it, if the run begins with that long there. `memory` is what the run begins with.
+    /// `None` where nothing is announced, for the write with which Spin enters its method, which no bytecode asks, for a read of a load, and
+    /// for an instruction that isn't the one that was loaded into its register from there.
+    pub fn counter(&self, memory: &Ram) -> Option<u16>
         ensures counts { (b : Begun) (ts : List Turn) → ⟦<CogLife as Life>⟧.stands self.now b ts →
-            IsAnnouncing (⟦<CogLife as Life>⟧.announced self.now) → IsCounter b ts result }
+            IsAnnouncing (⟦<CogLife as Life>⟧.announced self.now) → IsCounterOf memory.now b ts result }
         ensures none { ⟦<CogLife as Life>⟧.announced self.now ≡ None → result ≡ None }
     {
         match self.kind {
-            Kind::Pasm => None,
+            Kind::Pasm => self.pasm.counter(memory),
             Kind::Spin => self.spin.counter(),
         }
     }

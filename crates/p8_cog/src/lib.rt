@@ -3,6 +3,7 @@
 #![tactic(auto)]
 
 mod cog_life;
+mod counters;
 mod ending;
 mod fields;
 mod hub;

@@ -1,20 +1,24 @@
 // A cog as a life.
-ghost use Rattle.std.specs.Prelude.{ℕ, ◌≡◌, ◌<◌, ◌≤◌, ◌+◌, ◌%◌, ◌^◌, [], None, Some, IfOk};
+ghost use Rattle.std.specs.Prelude.{ℕ, ◌≡◌, ◌<◌, ◌≤◌, ◌+◌, ◌%◌, ◌^◌, [], List, true, None, Some, IfOk};
 ghost use Rattle.std.proofs.Math.Nat.{le_refl};
 ghost use Rattle.p8_access.specs.Windows.{IsWindow};
-ghost use Rattle.p8_access.specs.Lives.{PasmBegun};
+ghost use Rattle.p8_access.specs.declared.order.Turn.{Turn};
+ghost use Rattle.p8_access.specs.Lives.{Begun, PasmBegun};
+ghost use Rattle.p8_bcog.specs.Counters.{IsAnnouncing};
+ghost use Rattle.p8_cog.specs.Counters.{IsCounterOf};
 ghost use Rattle.p8_cog.specs.declared.stage.Stage.TheVariants.{Loading};
-ghost use Rattle.p8_cog.specs.Replay.{IsAsked, Begins};
-ghost use Rattle.p8_cog.specs.Standing.{StandsFor, clock_of};
-ghost use Rattle.p8_cog.specs.Stops.{Announces, IsAtHub, IsHalf, IsInLoad, announced_at, is_access};
+ghost use Rattle.p8_cog.specs.Replay.{IsAsked, Begins, step};
+ghost use Rattle.p8_cog.specs.Standing.{StandsFor, clock_of, standing_at};
+ghost use Rattle.p8_cog.specs.Stops.{Announces, IsAtHub, IsHalf, IsInLoad, announced_at, is_access, is_asking};
 ghost use Rattle.p8_cog.specs.Replaying.{one-asked, asked-first, asked-later};
 
+use crate::counters::loaded_from;
 use crate::ending::Ending;
 use crate::hub::value_in;
 use crate::progress::{Had, Progress};
 use crate::stage::Stage;
 use crate::state::State;
-use p8_access::{Life, Next, Turn};
+use p8_access::{Life, Next, Ram, Turn};
 use p8_words::NoMemory;
 use std::alloc::Global;
 
@@ -46,6 +50,7 @@ pub struct Cog {
     ghost at_hub: { (k : ℕ) → kept ≡ Some k → IsAtHub state.begun k },
     ghost loads: { stage ≡ Loading → IsInLoad state },
     ghost announces: { Announces cog code stage state (announced_at asking cog code stage state) },
+    ghost told: { asking ≡ true → is_asking (step cog (standing_at stage code state)) ≡ true },
 }
 
 /// Whether an answer announces an access.
@@ -119,6 +124,26 @@ impl Cog {
         self.cog = cog;
         self.stage = Stage::Loading;
         self.done = 0;
+    }
+
+    /// Where the long came from that asks the access that is announced: the hub address, in bytes, from which its register was loaded, if the run
+    /// begins with this long there. `memory` is what the run begins with. `None` where nothing is announced, for a read of the load, and for an
+    /// instruction that isn't the one that was loaded into its register from there.
+    pub fn counter(&self, memory: &Ram) -> Option<u16>
+        ensures counts { (b : Begun) (ts : List Turn) → ⟦<Cog as Life>⟧.stands self.now b ts →
+            IsAnnouncing (⟦<Cog as Life>⟧.announced self.now) → IsCounterOf memory.now b ts result }
+        ensures none { ⟦<Cog as Life>⟧.announced self.now ≡ None → result ≡ None }
+    {
+        if !self.asking {
+            return None;
+        }
+        match self.stage {
+            Stage::Running => {
+                let begun = &self.state.begun;
+                loaded_from(memory, self.code, begun.at, begun.long)
+            }
+            Stage::Loading | Stage::Over => None,
+        }
     }
 }
 

@@ -6,10 +6,11 @@ use Rattle.p8_access.specs.declared.order.Turn.{Turn}
 use Rattle.p8_access.specs.declared.lives.Next.{Next}
 use Rattle.p8_access.specs.declared.lives.Next.TheVariants.{At, Quiet, More}
 use Rattle.p8_access.specs.Lives.{Begun, Tells, announced_by}
-use Rattle.p8_bcog.specs.Counters.{IsAnnouncing, IsCounter}
+use Rattle.p8_bcog.specs.Counters.{IsAnnouncing}
 use Rattle.p8_bcog.specs.Stops as Bytecodes
 use Rattle.p8_cog.specs.Stops as Instructions
 use Rattle.p8_cog.specs.declared.cog_life.CogLife.{CogLife}
+use Rattle.p8_cog.specs.Counters.{IsCounterOf}
 use Rattle.p8_cog.specs.Kinds.{access_of}
 use Rattle.p8_cog.specs.WholeLives.{stands_for}
 
@@ -33,9 +34,9 @@ SameBut cog old new = (n : ℕ) (life : CogLife) → (n ≡ cog → ⊥) → sli
 abbrev pub HasAnnounced : CogLife → Next → Type 0
 HasAnnounced life said = (asked : ℕ × Access) → announced_by said ≡ Some asked → announced_in life ≡ Some asked
 
--- this is the counter of the access that the life has announced
-abbrev pub Counts : CogLife → Option ℕ → Type 0
-Counts life counter = (b : Begun) (ts : List Turn) → stands_for life b ts → IsAnnouncing (announced_in life) → IsCounter b ts counter
+-- this is the counter of the access that the life has announced, in a run that begins with this memory
+abbrev pub Counts : (memory : List ℕ) → CogLife → Option ℕ → Type 0
+Counts memory life counter = (b : Begun) (ts : List Turn) → stands_for life b ts → IsAnnouncing (announced_in life) → IsCounterOf memory b ts counter
 
 abbrev pub AreAnnounced : (sayings : List Next) → (lives : List CogLife) → Type 0
 AreAnnounced sayings lives = (n : ℕ) (life : CogLife) (said : Next) → slice_get lives n ≡ Some life → slice_get sayings n ≡ Some said → HasAnnounced life said

@@ -1,41 +1,39 @@
 // A run that keeps the counter of each turn, and what each cog asks in the end.
 ghost use Rattle.std.specs.Prelude.{◌≡◌, ◌<◌, ◌≤◌, [], ℕ, List, Some, length, reverse, slice_get, IfOk};
-ghost use Rattle.p8_access.specs.declared.lives.Next.{Next};
+ghost use Rattle.p8_machine.specs.declared.asked.Asked.{Asked};
 ghost use Rattle.p8_access.specs.Proper.{IsProperOrigin};
-ghost use Rattle.p8_access.specs.Hub.{cog_state};
 ghost use Rattle.p8_access.specs.Histories.{IsOver, Ended as HasEnded};
 ghost use Rattle.p8_hub.specs.Standing.{IsHub};
 ghost use Rattle.p8_cog.specs.Lives.{asks};
 ghost use Rattle.p8_ledger.specs.Worlds.{world_of};
-ghost use Rattle.p8_machine.specs.Asked.{IsNextAsked};
 ghost use Rattle.p8_machine.specs.Machines.{world_in, past_in, IsStanding};
-ghost use Rattle.p8_machine.specs.Counted.{AreAsked, AreCounters};
+ghost use Rattle.p8_machine.specs.Counted.{AreAsked, AreCounters, IsAskedBy};
 
+use crate::asked::Asked;
 use crate::run::Machine;
-use p8_access::{Boot, Next};
+use p8_access::Boot;
 use p8_ledger::{Ended, Limits};
 use p8_pins::PinScript;
 use p8_words::NoMemory;
 use std::alloc::Global;
 
-/// A history that has ended, with the program counter of each turn and what each cog asks next.
+/// A history that has ended, with the counter of each turn and what each cog asks next.
 #[derive(Drop)]
 pub struct Counted {
     pub ended: Ended,
-    /// For each turn, the oldest first: the hub address, in bytes, of the first byte of the bytecode that asks its
-    /// access. `None` for PASM, for the turn with which a life begins, and for the write with which Spin enters its
-    /// method.
+    /// For each turn, the oldest first, its counter: the hub address, in bytes, of the first byte of the bytecode of Spin that asks its access,
+    /// or from which the long was loaded that asks it, if the run begins with that long there. `None` for the turn with which a life begins,
+    /// the reads of a load, the write with which Spin enters its method, and a long that isn't the one that was loaded into its register.
     pub counters: Vec<Option<u16>>,
-    /// For each cog, in the order of their numbers: the access that it asks next, with the clock from which on it asks. `Quiet` where that
-    /// clock isn't below the limit, and where the cog doesn't run.
-    pub asked: [Next; 8],
+    /// What each cog asks next, in the order of their numbers.
+    pub asked: [Asked; 8],
 }
 
 /// What the eight cogs ask next, in the order of their numbers.
-fn next_accesses(machine: &Machine) -> [Next; 8]
+fn next_accesses(machine: &Machine) -> [Asked; 8]
     ensures length { length result ≡ 8 }
-    ensures each { IsStanding machine.now → (n : ℕ) (next : Next) → slice_get result n ≡ Some next →
-        IsNextAsked (world_in machine.now) (past_in machine.now) n (cog_state (world_in machine.now) (past_in machine.now) n) next }
+    ensures each { IsStanding machine.now → (n : ℕ) (asked : Asked) → slice_get result n ≡ Some asked →
+        IsAskedBy (world_in machine.now) (past_in machine.now) n asked }
 {
     [
         machine.asked(0),

@@ -7,13 +7,15 @@ ghost use Rattle.p8_access.specs.Histories.{Extends, IsOver, Ended as HasEnded, 
 ghost use Rattle.p8_access.specs.Hub.{cog_state};
 ghost use Rattle.p8_hub.specs.Standing.{IsHub};
 ghost use Rattle.p8_cog.specs.Lives.{asks};
+ghost use Rattle.p8_cog.specs.Stops.{is_access};
 ghost use Rattle.p8_ledger.specs.Advances.{HasMade};
 ghost use Rattle.p8_ledger.specs.Records.{Record};
 ghost use Rattle.p8_ledger.specs.Worlds.{world_of};
-ghost use Rattle.p8_machine.specs.Asked.{IsNextAsked};
+ghost use Rattle.p8_machine.specs.Counted.{IsAskedBy};
 ghost use Rattle.p8_machine.specs.Places.{AreAnnounced};
 ghost use Rattle.p8_machine.specs.Standing.{Stands, Comes, past_with, HasAdvanced, HasCounted};
 
+use crate::asked::Asked;
 use crate::seats::Seats;
 use p8_access::{Boot, CogState, Next, Turn};
 use p8_ledger::{Ended, First, Ledger, Limits, Room, Start};
@@ -28,6 +30,16 @@ pub struct Machine {
     script: PinScript,
     seats: Seats,
     ghost announced: { AreAnnounced ledger.sayings seats.lives.items },
+}
+
+/// Whether an access is asked.
+fn is_access(next: &Next) -> bool
+    ensures { result ≡ is_access next.now }
+{
+    match next {
+        Next::At { .. } => true,
+        Next::Quiet | Next::More { .. } => false,
+    }
 }
 
 impl Machine {
@@ -83,7 +95,7 @@ impl Machine {
         }
     }
 
-    /// Makes the turn with the least key, and tells its program counter; None exactly where the history has ended.
+    /// Makes the turn with the least key, and tells its counter; None exactly where the history has ended.
     #[inline(always)]
     pub(crate) fn step_counted(&mut self) -> Option<Option<u16>>
         ensures counted { IsStanding self.old → HasCounted (world_in self.old) (past_in self.old) (past_in self.new) result }
@@ -95,7 +107,8 @@ impl Machine {
     {
         match self.ledger.take_first(&self.script) {
             First::Done { turn, running } => {
-                let counter = self.seats.counter(turn.key.cog, running);
+                let memory = self.ledger.memory();
+                let counter = self.seats.counter(memory, turn.key.cog, running);
                 // The cog is in hand here, so it isn't read out of the log again.
                 self.settle(turn.key.cog, running);
                 Some(counter)
@@ -137,15 +150,24 @@ impl Machine {
         }
     }
 
-    /// What a cog asks next: the access, with the clock from which on it asks, or `Quiet` where that isn't below the limit of clocks. `Quiet`
-    /// where the cog doesn't run.
-    pub fn asked(&self, cog: u8) -> Next
+    /// What a cog asks next, with its counter. `Quiet` where the cog doesn't run.
+    pub fn asked(&self, cog: u8) -> Asked
         requires { cog < 8 }
-        ensures { IsStanding self.now → IsNextAsked (world_in self.now) (past_in self.now) cog (cog_state (world_in self.now) (past_in self.now) cog) result }
+        ensures { IsStanding self.now → IsAskedBy (world_in self.now) (past_in self.now) cog result }
     {
         match self.ledger.state(cog) {
-            CogState::Running { .. } => self.ledger.said(cog),
-            CogState::Starting { .. } | CogState::Stopped => Next::Quiet,
+            CogState::Running { .. } => {
+                let next = self.ledger.said(cog);
+                let memory = self.ledger.memory();
+                Asked {
+                    next,
+                    counter: self.seats.counter(memory, cog, is_access(&next)),
+                }
+            }
+            CogState::Starting { .. } | CogState::Stopped => Asked {
+                next: Next::Quiet,
+                counter: None,
+            },
         }
     }
 

@@ -121,17 +121,16 @@ impl Seats {
         })
     }
 
-    /// The program counter of a turn, before its life takes it: for Spin the hub address, in bytes, of the first byte of the bytecode that asks
-    /// it. `None` for PASM, for the turn with which a life begins, whose cog doesn't run before it, and for the write with which Spin enters
-    /// its method.
+    /// The counter of the access that a cog asks next, as [`CogLife::counter`] tells it, in a run that begins with `memory`. `None` where it asks
+    /// none as a cog that runs, as before the turn with which a life begins.
     #[inline(always)]
-    pub fn counter(&self, cog: u8, running: bool) -> Option<u16>
+    pub fn counter(&self, memory: &Ram, cog: u8, asking: bool) -> Option<u16>
         requires { cog < 8 }
-        ensures counts { (life : CogLife) → running ≡ true → slice_get self.now.lives.items cog ≡ Some life → Counts life result }
-        ensures none { running ≡ false → result ≡ None }
+        ensures counts { (life : CogLife) → asking ≡ true → slice_get self.now.lives.items cog ≡ Some life → Counts memory.now life result }
+        ensures none { asking ≡ false → result ≡ None }
     {
-        if running {
-            self.lives[usize::from(cog)].counter()
+        if asking {
+            self.lives[usize::from(cog)].counter(memory)
         } else {
             None
         }

@@ -4,7 +4,7 @@ use Rattle.p8_cog.specs.declared.stage.Stage.TheVariants.{Loading, Running}
 use Rattle.p8_cog.specs.Replay.{Begins}
 use Rattle.p8_cog.specs.Standing.{standing_at, clock_of}
 use Rattle.p8_cog.specs.Stops.{Stops}
-use Rattle.p8_cog.specs.Keeping.{stops-near, stops-tells, stops-thorough, stops-quiet, stops-far, over-ended, stops-announces, announces-same, told-announced, not-in-load, told-spends, over-tells, over-thorough, at-stage, again-told, again, led, placed}
+use Rattle.p8_cog.specs.Keeping.{stops-near, stops-tells, stops-thorough, stops-quiet, stops-far, over-ended, stops-announces, announces-same, told-announced, told-asks, not-in-load, told-spends, over-tells, over-thorough, at-stage, again-told, again, led, placed}
 use Rattle.p8_cog.proofs.pasm.CogLife.run_to_access.Goals as goal
 
 -- what a load tells stands where it is
@@ -24,6 +24,10 @@ invariant_of-self-clause-announces c =
     (told-announced c.args.self.now.cog c.args.self.now.code (clock_of c.args.self.now.state) c.args.until c.args.self.now.stage c.args.self.now.state c.next_read-next.result c.is_access-self.result c.is_access-self.ensures (in_load c))
     (stops-announces c.args.self.now.cog c.args.self.now.code c.args.until c.args.self.now.stage c.args.self.now.state c.next_read-next.result c.requires.until (in_load c))
 
+pub invariant_of-self-clause-told : goal.invariant_of-self-clause-told
+invariant_of-self-clause-told c =
+    told-asks c.args.self.now.cog c.args.self.now.code (clock_of c.args.self.now.state) c.args.until c.args.self.now.stage c.args.self.now.state c.next_read-next.result c.is_access-self.result c.is_access-self.ensures (in_load c)
+
 pub invariant_of-self-in-Running : goal.invariant_of-self-in-Running
 invariant_of-self-in-Running c =
     let stops = at-stage c.args.self.now.cog c.args.self.now.code (clock_of c.next_below-ran.new.self) c.args.until c.args.self.now.stage Running c.next_below-ran.new.self c.next_below-ran.result.next c.in-Running.is c.next_below-ran.ensures.stops in
@@ -37,6 +41,7 @@ invariant_of-self-in-Running c =
       half = c.next_below-ran.ensures.half;
       at_hub = c.next_below-ran.ensures.kept;
       loads = not-in-load c.args.self.now.stage c.next_below-ran.new.self c.in-Running.is;
+      told = told-asks c.args.self.now.cog c.args.self.now.code (clock_of c.next_below-ran.new.self) c.args.until c.args.self.now.stage c.next_below-ran.new.self c.next_below-ran.result.next c.is_access-self-in-Running.result c.is_access-self-in-Running.ensures stops;
       announces =
           announces-same c.args.self.now.cog c.args.self.now.code c.args.self.now.stage c.next_below-ran.new.self _ (announced_by c.next_below-ran.result.next)
           (told-announced c.args.self.now.cog c.args.self.now.code (clock_of c.next_below-ran.new.self) c.args.until c.args.self.now.stage c.next_below-ran.new.self c.next_below-ran.result.next c.is_access-self-in-Running.result c.is_access-self-in-Running.ensures stops)

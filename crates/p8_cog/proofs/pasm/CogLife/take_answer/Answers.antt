@@ -1,4 +1,4 @@
-use Rattle.std.proofs.Common.{◌≡◌, Some, None, ℕ, ◌+◌, ◌++◌, ◌∷◌, [], subst, arith}
+use Rattle.std.proofs.Common.{◌≡◌, true, false, Some, None, ℕ, ◌+◌, ◌++◌, ◌∷◌, [], subst, arith}
 use Rattle.p8_cog.specs.declared.stage.Stage.TheVariants.{Loading, Over}
 use Rattle.p8_cog.specs.Standing.{clock_of}
 use Rattle.p8_cog.specs.Stops.{Loads, announced_at}
@@ -31,6 +31,7 @@ invariant_of-self c =
       half = h.half;
       at_hub = λ k e. absurd (let x : None ≡ Some k = e in cc);
       loads = h.loads;
+      told = λ is. absurd (let x : false ≡ true = is in cc);
       announces = announces-none c.args.self.now.cog c.args.self.now.code c.take_long-self.result c.take_long-self.new.self;
     }
 
@@ -47,6 +48,7 @@ invariant_of-self-in-Ended c =
       half = c.in-Ended.ensures.half;
       at_hub = λ k e. absurd (let x : None ≡ Some k = e in cc);
       loads = λ is. absurd (let x : Over ≡ Loading = is in cc);
+      told = λ is. absurd (let x : false ≡ true = is in cc);
       announces = announces-none c.args.self.now.cog c.args.self.now.code Over c.take.new.self;
     }
 
@@ -63,6 +65,7 @@ invariant_of-self-in-Whole c =
       half = c.in-Whole.ensures.half;
       at_hub = λ k e. absurd (let x : None ≡ Some k = e in cc);
       loads = not-in-load c.args.self.now.stage c.take.new.self c.in-Running.is;
+      told = λ is. absurd (let x : false ≡ true = is in cc);
       announces = announces-none c.args.self.now.cog c.args.self.now.code c.args.self.now.stage c.take.new.self;
     }
 
@@ -79,6 +82,7 @@ invariant_of-self-in-Half c =
       half = c.in-Half.ensures.half;
       at_hub = λ k e. absurd (let x : None ≡ Some k = e in cc);
       loads = not-in-load c.args.self.now.stage c.take.new.self c.in-Running.is;
+      told = λ is. absurd (let x : false ≡ true = is in cc);
       announces = announces-none c.args.self.now.cog c.args.self.now.code c.args.self.now.stage c.take.new.self;
     }
 

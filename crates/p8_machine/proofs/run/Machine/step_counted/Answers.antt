@@ -1,4 +1,4 @@
-use Rattle.std.proofs.Common.{◌≡◌, ◌∙◌, ap, sym, subst, refl, List, ◌∷◌, reverse, inl, inr}
+use Rattle.std.proofs.Common.{◌≡◌, ◌∙◌, ap, sym, subst, refl, ℕ, List, ◌∷◌, reverse, inl, inr}
 use Rattle.p8_access.specs.declared.order.Turn.{Turn}
 use Rattle.p8_access.specs.Worlds.{World}
 use Rattle.p8_access.specs.Hub.{cog_state}
@@ -12,6 +12,7 @@ use Rattle.p8_ledger.specs.Records.{turns}
 use Rattle.p8_ledger.specs.Worlds.{world_of}
 use Rattle.p8_ledger.proofs.Telling.{none-over}
 use Rattle.p8_machine.specs.Counted.{IsCounterIn}
+use Rattle.p8_machine.specs.Places.{Counts}
 use Rattle.p8_machine.specs.Machines.{world_in, past_in, IsStanding}
 use Rattle.p8_machine.specs.Standing.{Stands, Comes}
 use Rattle.p8_machine.proofs.Announced.{kept-announced, no-promise, made-past}
@@ -34,7 +35,8 @@ returns-in-Done-clause-counted c = λ stands.
     let w : World = world_in c.args.self.now in
     let decides = c.in-Done.ensures.decides w stands.0 refl stands.1.found in
     let log : past_in c.settle.new.self ≡ c.in-Done.turn ∷ past_in c.args.self.now = c.settle.ensures.past ∙ made-past c.args.self.now.ledger c.take_first.new.self c.in-Done.turn c.in-Done.running c.in-Done.ensures.advances in
-    let counter = turn-counter w stands.0 c.args.self.now.ledger c.take_first.new.self c.args.self.now.seats.lives.items stands.1 c.args.self.now.announced c.args.self.now.seats.eight c.in-Done.turn c.in-Done.running c.in-Done.ensures.advances decides.2 c.counter-counter.result c.counter-counter.ensures.counts c.counter-counter.ensures.none in
+    let counter = turn-counter w stands.0 c.args.self.now.ledger c.take_first.new.self c.args.self.now.seats.lives.items stands.1 c.args.self.now.announced c.args.self.now.seats.eight c.in-Done.turn c.in-Done.running c.in-Done.ensures.advances decides.2 c.counter-counter.result
+    (λ life runs at. subst (λ (memory : List ℕ). Counts memory life c.counter-counter.result) (c.memory-memory.ensures w _ (c.in-Done.ensures.found w stands.0 refl stands.1.found)) (c.counter-counter.ensures.counts life runs at)) c.counter-counter.ensures.none in
     (c.in-Done.turn, log, subst (λ (l : List Turn). Extends asks w l c.in-Done.turn) (sym stands.1.found.log) decides.0, subst (λ (l : List Turn). IsCounterIn w l c.in-Done.turn.key.cog (cog_state w l c.in-Done.turn.key.cog) c.counter-counter.result) (sym stands.1.found.log) counter)
 
 pub returns-in-Done-clause-stands : goal.returns-in-Done-clause-stands
