@@ -53,6 +53,7 @@ pub mod Wholes
 pub mod Recoded
 pub mod Kept
 pub mod OneByOne
+mod Recoding
 pub mod Once
 mod Keeping
 mod Shorter

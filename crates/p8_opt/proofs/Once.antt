@@ -37,8 +37,8 @@ module _ (files : List NamedSource) (source : Source) (seen : Children) (top : B
   settings : file_setting x.kinds seen ≡ file_setting y.kinds seen
   settings = same_setting source seen x.kinds y.kinds like
 
-  codes : v.codes ≡ w.codes
-  codes =
+  pub codes-once : v.codes ≡ w.codes
+  codes-once =
       let count = s.count in
       same_lists v.codes w.codes (s.count ∙ sym t.count) (λ k c d at_c at_d.
       let inside = slice_get_within v.codes k c at_c in
@@ -53,7 +53,7 @@ module _ (files : List NamedSource) (source : Source) (seen : Children) (top : B
   object-once =
       ap (λ u. object_part files u source v.dat v.codes) (ap (λ k. file_setting k seen) s.kinds ∙ settings ∙ ap (λ k. file_setting k seen) (sym t.kinds))
       ∙ ap (λ dat. object_part files (setting_of seen w) source dat v.codes) (s.dat ∙ same_dat source seen x y like is.dat other.dat ∙ sym t.dat)
-      ∙ ap (λ cs. object_part files (setting_of seen w) source w.dat cs) codes
+      ∙ ap (λ cs. object_part files (setting_of seen w) source w.dat cs) codes-once
 
 objects-once : (files : List NamedSource) (children : List Children) (xs ys vs ws : List CompiledFile) → length children ≡ length files → AreCompiled files children xs → AreCompiled files children ys → AreShort files children xs vs → AreShort files children ys ws
     → objects_of files children vs ≡ objects_of files children ws

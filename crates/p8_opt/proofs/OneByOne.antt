@@ -1,4 +1,4 @@
--- The short codes of a file's methods, and the objects of its files, one by one.
+-- The short codes of a file's methods, and of files, one by one.
 use Rattle.std.proofs.Common.{◌≡◌, inl, inr, ℕ, ◌+◌, List, [], ◌∷◌, ◌++◌, length, slice_get, Some, refl, ap, sym, ◌∙◌, subst}
 use Rattle.std.proofs.lemmas.Option.{none-some, same_Some}
 use Rattle.p8_tree.specs.Projects.{NamedSource}
@@ -9,17 +9,16 @@ use Rattle.p8_gen.specs.declared.coder.Tables.{Tables}
 use Rattle.p8_gen.specs.Files.{names_in}
 use Rattle.p8_gen.specs.Names.{Names}
 use Rattle.p8_gen.proofs.Tabled.{names_same}
-use Rattle.p8_image.specs.declared.parts.ObjectPart.{ObjectPart}
 use Rattle.p8_stmt.specs.declared.code.MethodCode.{MethodCode}
 use Rattle.p8_stmt.specs.Jumps.{IsShortCode}
 use Rattle.p8_build.specs.declared.accepting.AcceptedFile.{AcceptedFile}
 use Rattle.p8_build.specs.Accepted.{compiled_file, recoded_file, methods_of}
 use Rattle.p8_build.specs.Files.{names_with}
-use Rattle.p8_build.specs.Files.{object_of}
 use Rattle.p8_build.proofs.Lists.{at_more}
 use Rattle.p8_meaning.specs.Constants.{constants_in}
 use Rattle.p8_meaning.specs.Folding.{folded_body}
-use Rattle.p8_opt.specs.Steps.{constants_by, CanBeFolded, AreFoldable, AreShortCodes, IsAcceptedFile, IsShortObject, IsItsShortObject, AreShortObjects}
+use Rattle.p8_opt.specs.Shorts.{IsShort}
+use Rattle.p8_opt.specs.Steps.{constants_by, CanBeFolded, AreFoldable, AreShortCodes, IsAcceptedFile, IsItsShort, AreAllShort}
 use Rattle.p8_opt.proofs.Ready.{foldable}
 
 module _ (kinds : Kinds) (tables : Tables) (ms : List MethodTree) where
@@ -40,20 +39,20 @@ module _ (kinds : Kinds) (tables : Tables) (ms : List MethodTree) where
         ];
       })
 
-module _ (files : List NamedSource) (accepted : List AcceptedFile) where
-  pub no-objects : (objects : List ObjectPart) → objects ≡ [] → AreShortObjects files accepted objects
-  no-objects objects none = subst (AreShortObjects files accepted) (sym none) (record { each = λ i f object at is. absurd (none-some object is) })
+module _ (accepted : List AcceptedFile) where
+  pub no-files : (codes : List (List MethodCode)) → codes ≡ [] → AreAllShort accepted codes
+  no-files codes none = subst (AreAllShort accepted) (sym none) (record { each = λ i f own at is. absurd (none-some own is) })
 
-  pub one-object-more : (i : ℕ) (f : AcceptedFile) (objects more : List ObjectPart) (object : ObjectPart) → slice_get accepted i ≡ Some f → length objects ≡ i → AreShortObjects files accepted objects
-      → IsItsShortObject files f object → more ≡ objects ++ object ∷ [] → AreShortObjects files accepted more
-  one-object-more i f objects more object at long are short is =
-      subst (AreShortObjects files accepted) (sym is) (record {
-        each = λ j g o at_g there. elim (at_more objects object j there) [
+  pub one-file-more : (i : ℕ) (f : AcceptedFile) (codes more : List (List MethodCode)) (own : List MethodCode) → slice_get accepted i ≡ Some f → length codes ≡ i → AreAllShort accepted codes
+      → IsItsShort f own → more ≡ codes ++ own ∷ [] → AreAllShort accepted more
+  one-file-more i f codes more own at long are short is =
+      subst (AreAllShort accepted) (sym is) (record {
+        each = λ j g o at_g there. elim (at_more codes own j there) [
           | inl old ↦ are.each j g o at_g old
           | inr new ↦
               let place : i ≡ j = sym long ∙ sym new.0 in
               let here : slice_get accepted j ≡ Some f = ap (slice_get accepted) (sym place) ∙ at in
-              subst (λ (z : AcceptedFile). IsItsShortObject files z o) (same_Some f g (sym here ∙ at_g)) (subst (IsItsShortObject files f) (sym new.1) short)
+              subst (λ (z : AcceptedFile). IsItsShort z o) (same_Some f g (sym here ∙ at_g)) (subst (IsItsShort f) (sym new.1) short)
         ];
       })
 
@@ -72,19 +71,15 @@ module _ (f : AcceptedFile) (file : IsAcceptedFile f) where
         (foldable own_source file.children file.top (compiled_file f) file.is file.proper k m at file.words));
   })
 
-  pub object-short : (files : List NamedSource) (codes : List MethodCode) (object : ObjectPart) → length codes ≡ length (methods_of f) → AreShortCodes f.kinds f.tables (methods_of f) codes
-      → object ≡ object_of files file.source file.children (recoded_file f codes) → IsShortObject files file.source file.children f object
-  object-short files codes object long are made = record {
-    codes = codes;
-    short = record {
-      kinds = refl;
-      dat = refl;
-      labels = refl;
-      count = long ∙ ap length file.tables.methods_are;
-      each = λ k m code at there.
-          subst (λ (names : Names). IsShortCode names m (folded_body (constants_in (file_setting f.kinds file.children)) m.body) code) (same-names k m)
-          (subst (λ s. IsShortCode (names_with f.kinds f.tables k m) m (folded_body (constants_in s) m.body) code) file.tables.consts
-          (are.each k m code (ap (λ xs. slice_get xs k) file.tables.methods_are ∙ at) there));
-    };
-    is = made;
+  pub codes-short : (codes : List MethodCode) → length codes ≡ length (methods_of f) → AreShortCodes f.kinds f.tables (methods_of f) codes
+      → IsShort file.source file.children (compiled_file f) (recoded_file f codes)
+  codes-short codes long are = record {
+    kinds = refl;
+    dat = refl;
+    labels = refl;
+    count = long ∙ ap length file.tables.methods_are;
+    each = λ k m code at there.
+        subst (λ (names : Names). IsShortCode names m (folded_body (constants_in (file_setting f.kinds file.children)) m.body) code) (same-names k m)
+        (subst (λ s. IsShortCode (names_with f.kinds f.tables k m) m (folded_body (constants_in s) m.body) code) file.tables.consts
+        (are.each k m code (ap (λ xs. slice_get xs k) file.tables.methods_are ∙ at) there));
   }

@@ -1,9 +1,9 @@
 -- A whole project with short code, from its files.
-use Rattle.std.proofs.Common.{◌≡◌, ℕ, suc, ◌<◌, ◌==◌, Bool, true, List, [], ◌∷◌, length, slice_get, Some, refl, ap, sym, ◌∙◌, subst, arith}
+use Rattle.std.proofs.Common.{◌≡◌, ℕ, zero, suc, ◌<◌, ◌==◌, Bool, true, List, [], ◌∷◌, length, slice_get, Some, refl, ap, ap₂, sym, ◌∙◌, subst, arith}
 use Rattle.std.specs.Prelude.{map, option_map}
 use Rattle.std.specs.List.{flat_map}
 use Rattle.std.proofs.lemmas.List.{length-map}
-use Rattle.std.proofs.lemmas.Option.{slice_get_within, slice_get-map, none-some}
+use Rattle.std.proofs.lemmas.Option.{slice_get_within, slice_get-map, same_Some, none-some}
 use Rattle.p8_tree.specs.declared.places.Place.{Place}
 use Rattle.p8_tree.specs.Expressions.{Form}
 use Rattle.p8_tree.specs.Projects.{NamedSource}
@@ -12,7 +12,9 @@ use Rattle.p8_tree.specs.Sources.{MethodTree, Source}
 use Rattle.p8_tree.specs.declared.faults.Fault.{Fault}
 use Rattle.p8_tree.specs.Faults.{fault}
 use Rattle.p8_tree.specs.declared.refusal.Refusal.TheVariants.{NoPub}
-use Rattle.p8_constants.specs.FileItems.{items}
+use Rattle.p8_constants.specs.FileItems.{Item, items}
+use Rattle.p8_fold.specs.ConstantEntries.{setting_of as setting_in}
+use Rattle.p8_fold.specs.Meanings.{Setting}
 use Rattle.p8_constants.specs.Rules.{has_public}
 use Rattle.p8_kinds.specs.declared.children.Children.{Children}
 use Rattle.p8_kinds.specs.FileSettings.{file_setting}
@@ -28,20 +30,21 @@ use Rattle.p8_image.specs.Projects.{HasMain, BeginsWithMain, FitsHub}
 use Rattle.p8_build.specs.declared.accepting.AcceptedFile.{AcceptedFile}
 use Rattle.p8_build.specs.declared.building.Accepted.{Accepted}
 use Rattle.p8_build.specs.declared.building.Built.{Built}
-use Rattle.p8_build.specs.Accepted.{IsAccepted, IsFinished, compiled_file, compiled_files, recoded_file}
+use Rattle.p8_build.specs.Accepted.{HasTables, IsAccepted, IsFinished, compiled_file, compiled_files, methods_of, recoded_file}
 use Rattle.p8_build.specs.Strings.{Texts}
 use Rattle.p8_build.specs.Parts.{AreProper, strings_of, text_in, method_part, method_parts, variable_in, instances_of}
 use Rattle.p8_build.specs.Files.{CompiledFile, IsCompiled, setting_of, method_names, object_of}
 use Rattle.p8_build.specs.Builds.{IsFile, AreCompiled, objects_from, objects_of, clock_by, IsImageFault, too_large, no_clock}
-use Rattle.p8_build.specs.Phases.{clock_in}
-use Rattle.p8_build.proofs.Lists.{element, one_element, choose}
-use Rattle.p8_build.proofs.Wholes.{objects_are, is_main, main_first, has_methods, not_lacking, clock_is}
+use Rattle.p8_build.specs.Phases.{clock_in, object_by, object_in}
+use Rattle.p8_build.proofs.Lists.{element, one_element}
+use Rattle.p8_build.proofs.Wholes.{is_main, main_first, has_methods, not_lacking, clock_is}
 use Rattle.p8_names.proofs.Seen.{has-words}
 use Rattle.p8_opt.proofs.Resolved.{are-words}
 use Rattle.p8_meaning.specs.Constants.{constants_in}
 use Rattle.p8_meaning.specs.Folding.{folded_body}
 use Rattle.p8_opt.specs.Shorts.{IsShort, AreShort, IsShortBuiltTo}
-use Rattle.p8_opt.specs.Steps.{IsAcceptedFile, AreAcceptedFiles, AreShortObjects}
+use Rattle.p8_opt.specs.Shortening.{IsShortened, recoded_files}
+use Rattle.p8_opt.specs.Steps.{IsAcceptedFile, AreAcceptedFiles, AreAllShort, objects_in}
 use Rattle.p8_opt.proofs.Ready.{no-longer}
 use Rattle.p8_opt.proofs.Sizes.{IsNoLonger, AreNoLonger, IsNoGreater, AreNoGreater, no-later}
 
@@ -103,6 +106,39 @@ begins (f ∷ fs) all [] ys l a b each = absurd (omega (arith, a))
 begins (f ∷ fs) all (c ∷ cs) [] l a b each = absurd (omega (arith, b))
 begins (f ∷ fs) all (c ∷ cs) (y ∷ ys) l a b each = each f c y refl refl refl
 
+-- ---- files with other codes
+
+recoded-many : (fs : List AcceptedFile) (codes : List (List MethodCode)) → length codes ≡ length fs → length (recoded_files fs codes) ≡ length fs
+recoded-many [] codes long = refl
+recoded-many (f ∷ fs) [] long = absurd (omega (arith, long))
+recoded-many (f ∷ fs) (own ∷ codes) long = ap suc (recoded-many fs codes (omega (arith, long)))
+
+recoded-at : (fs : List AcceptedFile) (codes : List (List MethodCode)) (i : ℕ) (f : AcceptedFile) (own : List MethodCode) → slice_get fs i ≡ Some f → slice_get codes i ≡ Some own
+    → slice_get (recoded_files fs codes) i ≡ Some (recoded_file f own)
+recoded-at [] codes i f own a b = absurd (none-some f a)
+recoded-at (g ∷ fs) [] i f own a b = absurd (none-some own b)
+recoded-at (g ∷ fs) (c ∷ codes) zero f own a b = ap₂ (λ (h : AcceptedFile) (d : List MethodCode). Some (recoded_file h d)) (same_Some g f a) (same_Some c own b)
+recoded-at (g ∷ fs) (c ∷ codes) (suc i) f own a b = recoded-at fs codes i f own a b
+
+object-recoded : (files : List NamedSource) (source : Source) (children : Children) (f : AcceptedFile) (codes : List MethodCode) → HasTables source children f
+    → object_in files f codes ≡ object_of files source children (recoded_file f codes)
+object-recoded files source children f codes h =
+    ap (λ (xs : List Item). object_by files (setting_in f.tables.consts) xs (methods_of f) f.dat.bytes codes) h.items_are
+    ∙ ap (λ (ms : List MethodTree). object_by files (setting_in f.tables.consts) (items source) ms f.dat.bytes codes) h.methods_are
+    ∙ ap (λ (s : Setting). object_by files s (items source) (numbered (items source)) f.dat.bytes codes) h.consts
+
+objects-recoded : (all fs : List NamedSource) (cs : List Children) (xs : List AcceptedFile) (codes : List (List MethodCode)) → length cs ≡ length fs → length xs ≡ length fs → length codes ≡ length xs
+    → ((i : ℕ) (f : NamedSource) (c : Children) (x : AcceptedFile) → slice_get fs i ≡ Some f → slice_get cs i ≡ Some c → slice_get xs i ≡ Some x → HasTables f.tree c x)
+    → objects_in all xs codes ≡ objects_from all fs cs (recoded_files xs codes)
+objects-recoded all [] cs [] codes a b d each = refl
+objects-recoded all [] cs (x ∷ xs) codes a b d each = absurd (omega (arith, b))
+objects-recoded all (f ∷ fs) [] xs codes a b d each = absurd (omega (arith, a))
+objects-recoded all (f ∷ fs) (c ∷ cs) [] codes a b d each = absurd (omega (arith, b))
+objects-recoded all (f ∷ fs) (c ∷ cs) (x ∷ xs) [] a b d each = absurd (omega (arith, d))
+objects-recoded all (f ∷ fs) (c ∷ cs) (x ∷ xs) (own ∷ codes) a b d each =
+    ap₂ (λ (o : ObjectPart) (os : List ObjectPart). o ∷ os) (object-recoded all f.tree c x own (each 0 f c x refl refl refl))
+    (objects-recoded all fs cs xs codes (omega (arith, a)) (omega (arith, b)) (omega (arith, d)) (λ i. each (suc i)))
+
 -- ---- the files of an accepted project
 
 module _ (files : List NamedSource) (a : Accepted) (some : 0 < length files) (proper : AreProper files) (is : IsAccepted files a) where
@@ -148,85 +184,71 @@ module _ (files : List NamedSource) (a : Accepted) (some : 0 < length files) (pr
   clock-of : (f : AcceptedFile) → slice_get a.files 0 ≡ Some f → clock_in f.kinds ≡ clock_by xs
   clock-of f at = clock_is a.files f at
 
-  -- ---- their objects with short code
+  -- ---- their codes and objects with short code
 
-  module _ (objects : List ObjectPart) (long : length objects ≡ length a.files) (short : AreShortObjects files a.files objects) where
-    -- what file i is compiled to with short code, and its object
-    pub record IsShortened (i : ℕ) (object : ObjectPart) (y : CompiledFile) : Type 0 where
-      pub each : (file : NamedSource) (seen : Children) (x : CompiledFile) → IsFile files a.children i file seen → slice_get xs i ≡ Some x → IsShort file.tree seen x y × (object ≡ object_of files file.tree seen y)
+  module _ (codes : List (List MethodCode)) (long : length codes ≡ length a.files) (short : AreAllShort a.files codes) where
+    abbrev ys : List CompiledFile
+    ys = recoded_files a.files codes
 
-    shortened-at : (i : ℕ) (object : ObjectPart) → slice_get objects i ≡ Some object → (y : CompiledFile) × IsShortened i object y
-    shortened-at i object at =
-        let inside = slice_get_within objects i object at in
-        let many = accepted-many in
-        let f = element a.files i (omega (arith, inside, long)) in
-        let h = file-at i (omega (arith, inside, long, many)) in
-        let s = short.each i f.0 object f.1 at (accepted-at i f.0 f.1 h.0 h.1 h.2) in
-        let y = recoded_file f.0 s.codes in (
-          y,
-          record {
-            each = λ file seen x there at_x.
-                let P : NamedSource → Children → CompiledFile → Type 0 = λ file seen x. IsShort file.tree seen x y × (object ≡ object_of files file.tree seen y) in
-                subst (λ (z : NamedSource). P z seen x) (one_element files i h.2.stands there.stands) (subst (λ (z : Children). P h.0 z x) (one_element a.children i h.2.beside there.beside)
-                (subst (λ (z : CompiledFile). P h.0 h.1 z) (one_element xs i (compiled-at i f.0 f.1) at_x) (s.short, s.is)));
-          },
-        )
-
-    pub chosen : (ys : List CompiledFile) × (length ys ≡ length objects) × ((i : ℕ) (object : ObjectPart) (y : CompiledFile) → slice_get objects i ≡ Some object → slice_get ys i ≡ Some y → IsShortened i object y)
-    chosen = choose IsShortened objects shortened-at
-
-    pub are-short : AreShort files a.children xs chosen.0
+    pub are-short : AreShort files a.children xs ys
     are-short = record {
-      count = chosen.1 ∙ long ∙ accepted-many ∙ sym is.each.count;
+      count = recoded-many a.files codes long ∙ sym (length-map a.files compiled_file);
       each = λ i file seen x y there at_x at_y.
-          let inside = slice_get_within chosen.0 i y at_y in
-          let o = element objects i (omega (arith, inside, chosen.1)) in
-          ((chosen.2 i o.0 y o.1 at_y).each file seen x there at_x).0;
+          let inside = slice_get_within ys i y at_y in
+          let many = recoded-many a.files codes long in
+          let f = element a.files i (omega (arith, inside, many)) in
+          let own = element codes i (omega (arith, inside, many, long)) in
+          let same_x : compiled_file f.0 ≡ x = one_element xs i (compiled-at i f.0 f.1) at_x in
+          let same_y : recoded_file f.0 own.0 ≡ y = one_element ys i (recoded-at a.files codes i f.0 own.0 f.1 own.1) at_y in
+          subst (λ (z : CompiledFile). IsShort file.tree seen z y) same_x (subst (IsShort file.tree seen (compiled_file f.0)) same_y
+          (short.each i f.0 own.0 f.1 own.1 (accepted-at i f.0 f.1 file seen there)));
     }
 
-    pub short-objects : objects ≡ objects_of files a.children chosen.0
-    short-objects =
-        let counted = is.each.count in
-        let beside = is.seen.one_each in
-        objects_are files files a.children chosen.0 objects beside (chosen.1 ∙ long ∙ accepted-many) (long ∙ accepted-many) (λ i f c y o at_f at_c at_y at_o.
-        let inside = slice_get_within files i f at_f in
-        let x = element xs i (omega (arith, inside, counted)) in
-        ((chosen.2 i o y at_o at_y).each f c x.0 (record { stands = at_f; beside = at_c }) x.1).1)
+    pub objects-are : objects_in files a.files codes ≡ objects_of files a.children ys
+    objects-are = objects-recoded files files a.children a.files codes is.seen.one_each accepted-many long
+        (λ i f c x at_f at_c at_x. is.tables i f c x (record { stands = at_f; beside = at_c }) at_x)
 
-    -- ---- the image
+    module _ (objects : List ObjectPart) (made : objects ≡ objects_in files a.files codes) where
+      short-objects : objects ≡ objects_of files a.children ys
+      short-objects = made ∙ objects-are
 
-    pub built-to : (f : AcceptedFile) (b : Built) → slice_get a.files 0 ≡ Some f → IsFinished (clock_in f.kinds) objects b → IsShortBuiltTo files b
-    built-to f b at done = record {
-      clock = done.clock;
-      built = record {
-        children = a.children;
-        seen = is.seen;
-        compiled = xs;
-        each = is.each;
-        clock_is = sym (clock-of f at) ∙ done.is;
-        fits = is.finished.fits;
-        short = chosen.0;
-        shorter = are-short;
-        objects_are = done.objects_are ∙ short-objects;
-      };
-      image = done.image ∙ ap (λ os. image_in (image_of done.clock os)) (sym done.objects_are);
-    }
+      pub shortened : (b : Built) → b.objects ≡ objects → IsShortened files a (record { codes = codes; built = b })
+      shortened b same = record { count = long; shorter = are-short; objects_are = same ∙ short-objects }
 
-    pub begins-with-main : BeginsWithMain objects
-    begins-with-main =
-        let shorter = are-short in
-        let beside = is.seen.one_each in
-        let counted = is.each.count in
-        subst BeginsWithMain (sym short-objects) (begins files files a.children chosen.0 some beside (shorter.count ∙ counted) (λ f c y at_f at_c at_y.
-        let there : IsFile files a.children 0 f c = record { stands = at_f; beside = at_c } in
-        let inside = slice_get_within files 0 f at_f in
-        let x = element xs 0 (omega (arith, inside, counted)) in
-        short-main files f.tree c x.0 y (is.each.each 0 f c x.0 there x.1) (shorter.each 0 f c x.0 y there x.1 at_y)))
+      -- ---- the image
 
-    -- the project isn't refused with short code
-    pub never-refused : (f : AcceptedFile) → slice_get a.files 0 ≡ Some f → (fault : Fault) → ¬ IsImageFault objects (clock_in f.kinds) fault
-    never-refused f at fault (too_large large told) =
-        let fits = short-fits files a.children xs chosen.0 proper is.seen.one_each is.each are-short is.finished.fits in
-        let over : 32768 < (header_by (objects_of files a.children chosen.0)).dcurr = subst (λ (os : List ObjectPart). 32768 < (header_by os).dcurr) short-objects large in
-        omega (arith, fits, over)
-    never-refused f at fault (no_clock none told) = absurd (none-some is.finished.clock (sym none ∙ clock-of f at ∙ is.finished.is))
+      pub built-to : (f : AcceptedFile) (b : Built) → slice_get a.files 0 ≡ Some f → IsFinished (clock_in f.kinds) objects b → IsShortBuiltTo files b
+      built-to f b at done = record {
+        clock = done.clock;
+        built = record {
+          children = a.children;
+          seen = is.seen;
+          compiled = xs;
+          each = is.each;
+          clock_is = sym (clock-of f at) ∙ done.is;
+          fits = is.finished.fits;
+          short = ys;
+          shorter = are-short;
+          objects_are = done.objects_are ∙ short-objects;
+        };
+        image = done.image ∙ ap (λ os. image_in (image_of done.clock os)) (sym done.objects_are);
+      }
+
+      pub begins-with-main : BeginsWithMain objects
+      begins-with-main =
+          let shorter = are-short in
+          let beside = is.seen.one_each in
+          let counted = is.each.count in
+          subst BeginsWithMain (sym short-objects) (begins files files a.children ys some beside (shorter.count ∙ counted) (λ f c y at_f at_c at_y.
+          let there : IsFile files a.children 0 f c = record { stands = at_f; beside = at_c } in
+          let inside = slice_get_within files 0 f at_f in
+          let x = element xs 0 (omega (arith, inside, counted)) in
+          short-main files f.tree c x.0 y (is.each.each 0 f c x.0 there x.1) (shorter.each 0 f c x.0 y there x.1 at_y)))
+
+      -- the project isn't refused with short code
+      pub never-refused : (f : AcceptedFile) → slice_get a.files 0 ≡ Some f → (fault : Fault) → ¬ IsImageFault objects (clock_in f.kinds) fault
+      never-refused f at fault (too_large large told) =
+          let fits = short-fits files a.children xs ys proper is.seen.one_each is.each are-short is.finished.fits in
+          let over : 32768 < (header_by (objects_of files a.children ys)).dcurr = subst (λ (os : List ObjectPart). 32768 < (header_by os).dcurr) short-objects large in
+          omega (arith, fits, over)
+      never-refused f at fault (no_clock none told) = absurd (none-some is.finished.clock (sym none ∙ clock-of f at ∙ is.finished.is))

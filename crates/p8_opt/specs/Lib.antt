@@ -11,6 +11,8 @@ pub mod Asked
 pub mod Shorts
 -- What building with it promises of its image.
 pub mod Shorter
+-- The codes that an accepted project then has.
+pub mod Shortening
 -- What each step of that comes to: internal.
 pub mod Steps
 -- What public contracts cite.

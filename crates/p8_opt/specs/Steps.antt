@@ -1,5 +1,5 @@
 -- internal: what each step of building with short code comes to.
-use Rattle.std.specs.Prelude.{◌≡◌, ℕ, Bool, List, slice_get, Some}
+use Rattle.std.specs.Prelude.{◌≡◌, ℕ, Bool, List, [], ◌∷◌, slice_get, Some}
 use Rattle.p8_tree.specs.Projects.{NamedSource}
 use Rattle.p8_tree.specs.Proper.{IsProperFile}
 use Rattle.p8_tree.specs.Sources.{MethodTree, Source}
@@ -15,8 +15,8 @@ use Rattle.p8_stmt.specs.Methods.{AreResolved, IsMethodFault, rebodied}
 use Rattle.p8_stmt.specs.Jumps.{IsShortCode}
 use Rattle.p8_build.specs.declared.accepting.AcceptedFile.{AcceptedFile}
 use Rattle.p8_build.specs.Accepted.{HasTables, compiled_file, recoded_file}
-use Rattle.p8_build.specs.Files.{names_with}
-use Rattle.p8_build.specs.Files.{IsCompiled, object_of, setting_of}
+use Rattle.p8_build.specs.Files.{names_with, IsCompiled, setting_of}
+use Rattle.p8_build.specs.Phases.{object_in}
 use Rattle.p8_meaning.specs.Constants.{Constants, constants_in}
 use Rattle.p8_meaning.specs.Folding.{folded_body}
 use Rattle.p8_opt.specs.Asked.{AreWords}
@@ -49,18 +49,17 @@ pub record IsAcceptedFile (f : AcceptedFile) : Type 0 where
   pub words : AreWords (constants_in (setting_of children (compiled_file f)))
   pub tables : HasTables source children f
 
--- the object of a file with short code
-pub record IsShortObject (files : List NamedSource) (source : Source) (children : Children) (f : AcceptedFile) (object : ObjectPart) : Type 0 where
-  pub codes : List MethodCode
-  pub short : IsShort source children (compiled_file f) (recoded_file f codes)
-  pub is : object ≡ object_of files source children (recoded_file f codes)
-
-abbrev pub IsItsShortObject : List NamedSource → AcceptedFile → ObjectPart → Type 0
-IsItsShortObject files f object = (h : IsAcceptedFile f) → IsShortObject files h.source h.children f object
+-- these are the short codes of its methods
+abbrev pub IsItsShort : AcceptedFile → List MethodCode → Type 0
+IsItsShort f codes = (h : IsAcceptedFile f) → IsShort h.source h.children (compiled_file f) (recoded_file f codes)
 
 pub record AreAcceptedFiles (accepted : List AcceptedFile) : Type 0 where
   pub each : (i : ℕ) (f : AcceptedFile) → slice_get accepted i ≡ Some f → IsAcceptedFile f
 
-pub record AreShortObjects (files : List NamedSource) (accepted : List AcceptedFile) (objects : List ObjectPart) : Type 0 where
-  pub each : (i : ℕ) (f : AcceptedFile) (object : ObjectPart) → slice_get accepted i ≡ Some f → slice_get objects i ≡ Some object →
-      IsItsShortObject files f object
+pub record AreAllShort (accepted : List AcceptedFile) (codes : List (List MethodCode)) : Type 0 where
+  pub each : (i : ℕ) (f : AcceptedFile) (own : List MethodCode) → slice_get accepted i ≡ Some f → slice_get codes i ≡ Some own → IsItsShort f own
+
+-- the objects of files with these codes of each one's methods
+abbrev pub objects_in : List NamedSource → List AcceptedFile → List (List MethodCode) → List ObjectPart
+objects_in files (f ∷ fs) (own ∷ codes) = object_in files f own ∷ objects_in files fs codes
+objects_in files _ _ = []

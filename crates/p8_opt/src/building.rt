@@ -8,12 +8,14 @@ ghost use Rattle.p8_build.specs.Parts.{AreProper};
 ghost use Rattle.p8_build.specs.Told.{IsRefusal};
 ghost use Rattle.p8_opt.specs.Shorts.{IsShortBuiltTo, IsShortImageBuilt};
 ghost use Rattle.p8_opt.specs.Shorter.{HasNoLongerMethods, KeepsSource};
+ghost use Rattle.p8_opt.specs.Shortening.{IsShortened};
 
 use crate::built_laws::built_short_images_keep_meaning;
-use crate::objects::short_objects;
+use crate::objects::{codes_of_all, objects_with};
 use p8_build::{Accepted, BuildFault, Built, accept, finish};
 use p8_image::Image;
-use p8_tree::{Project, ProjectFile};
+use p8_stmt::MethodCode;
+use p8_tree::{List, Project, ProjectFile};
 use p8_words::{Fail, NoMemory};
 use std::alloc::Global;
 
@@ -33,7 +35,9 @@ pub fn build_short_parts(alloc: Global, project: &Project) -> Result<Built, Buil
     ensures refused { IfErr result (IsRefusal (named_sources_of project.now)) }
 {
     let accepted = accept(alloc, project)?;
-    Ok(shortened(alloc, project.files.as_slice(), &accepted)?)
+    let Shortened { codes, built } = shorten(alloc, project.files.as_slice(), &accepted)?;
+    drop(codes);
+    Ok(built)
 }
 
 /// Builds a project to its image with shorter code alone, under the same conditions and with the same errors as
@@ -58,22 +62,33 @@ pub fn build_short(alloc: Global, project: &Project) -> Result<Image, BuildFault
     Ok(image)
 }
 
-/// What an accepted project is built to with short code.
-fn shortened(
+/// What an accepted project comes to with short code.
+#[derive(Drop)]
+pub struct Shortened {
+    /// The codes of the methods of each file, in the order of the files.
+    pub codes: List<List<MethodCode>>,
+    /// What the project is built to with them.
+    pub built: Built,
+}
+
+/// What an accepted project, of these files, comes to with short code. The only error is want of memory.
+pub fn shorten(
     alloc: Global,
     files: &[ProjectFile],
     accepted: &Accepted<'_>,
-) -> Result<Built, NoMemory>
+) -> Result<Shortened, NoMemory>
     requires some { 0 < length files.now }
     requires few { length files.now ≤ most_files }
     requires proper { AreProper (map named_source_of files.now) }
     requires accepted { IsAccepted (map named_source_of files.now) accepted.now }
-    ensures { IfOk result (IsShortBuiltTo (map named_source_of files.now)) }
+    ensures built { IfOk result (λ short. IsShortBuiltTo (map named_source_of files.now) short.built) }
+    ensures codes { IfOk result (IsShortened (map named_source_of files.now) accepted.now) }
 {
     let all = accepted.files.as_slice();
-    let objects = short_objects(alloc, files, all)?;
+    let codes = codes_of_all(alloc, all)?;
+    let objects = objects_with(alloc, files, all, codes.as_slice())?;
     match finish(alloc, &all[0].kinds, objects) {
-        Ok(built) => Ok(built),
+        Ok(built) => Ok(Shortened { codes, built }),
         Err(Fail::NoMemory) => Err(NoMemory),
         Err(Fail::Refused(_)) => unreachable!(),
     }

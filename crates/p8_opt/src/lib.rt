@@ -13,7 +13,7 @@ mod laws;
 mod objects;
 mod placed_laws;
 
-pub use building::{build_short, build_short_parts};
+pub use building::{Shortened, build_short, build_short_parts, shorten};
 pub use built_laws::{
     built_images_keep_meaning, built_images_load, built_short_images_keep_meaning,
     short_images_load,
