@@ -1,7 +1,8 @@
 -- How the objects of a project stand in the hub (the public form of Spin images; the order of the parts and both paddings are this
 -- project's profile). A project is the list of its objects in the order of its files, the top file's first. Each object stands in the
 -- hub once. It has variables as often as it is used inside others.
-use Rattle.std.specs.Prelude.{ℕ, zero, suc, ◌+◌, ◌-◌, ◌*◌, ◌/◌, ◌%◌, ◌==◌, nat_lt, List, [], ◌∷◌, ◌++◌, length, take, filter, map, flat_map, replicate, slice_index, slice_set, sum}
+use Rattle.std.specs.Prelude.{ℕ, zero, suc, ◌+◌, ◌-◌, ◌*◌, ◌/◌, ◌%◌, ◌==◌, nat_lt, List, [], ◌∷◌, ◌++◌, length, take, filter, map, flat_map}
+use Rattle.std.specs.Prelude.{replicate, slice_index, slice_set, sum}
 use Rattle.p8_image.specs.declared.header.Header.{Header}
 use Rattle.p8_image.specs.declared.clocks.Clock.{Clock}
 use Rattle.p8_image.specs.declared.parts.Variable.{Variable}

@@ -1,6 +1,7 @@
 -- Which files are images, and what starts from one (this project's profile of the public form of Spin images). There are two kinds of file:
 -- a `.binary` file holds the objects alone, and an `.eeprom` file the whole memory that a run begins with.
-use Rattle.std.specs.Prelude.{ℕ, ◌+◌, ◌-◌, ◌%◌, ◌==◌, ◌≡◌, Bool, ◌&&◌, nat_le, nat_lt, if◌then◌else◌, List, [], ◌∷◌, ◌++◌, length, replicate, slice_set, sum, take, Option, Some, None}
+use Rattle.std.specs.Prelude.{ℕ, ◌+◌, ◌-◌, ◌%◌, ◌==◌, ◌≡◌, Bool, ◌&&◌, nat_le, nat_lt, if◌then◌else◌, List, [], ◌∷◌, ◌++◌, length, replicate}
+use Rattle.std.specs.Prelude.{slice_set, sum, take, Option, Some, None}
 use Rattle.p8_words.specs.declared.failure.Fail.{Fail}
 use Rattle.p8_words.specs.declared.failure.Fail.TheVariants.{Refused, NoMemory}
 use Rattle.p8_access.specs.Boots.{ram_of}

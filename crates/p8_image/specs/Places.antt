@@ -3,7 +3,8 @@ use Rattle.std.specs.Prelude.{ℕ, ◌+◌, ◌≡◌, List, [], ◌∷◌, ◌+
 use Rattle.p8_image.specs.declared.clocks.Clock.{Clock}
 use Rattle.p8_image.specs.declared.parts.MethodPart.{MethodPart}
 use Rattle.p8_image.specs.declared.parts.ObjectPart.{ObjectPart}
-use Rattle.p8_image.specs.Layout.{dat_offset, code_offset, text_offsets, bases_of, variables_base, variables_of, variable_offset, inner_offset, linked, table_bytes, image_of}
+use Rattle.p8_image.specs.Layout.{dat_offset, code_offset, text_offsets, bases_of, variables_base, variables_of, variable_offset, inner_offset}
+use Rattle.p8_image.specs.Layout.{linked, table_bytes, image_of}
 
 -- these bytes stand at a place of a memory
 pub record Stands (memory : List ℕ) (place : ℕ) (bytes : List ℕ) : Type 0 where

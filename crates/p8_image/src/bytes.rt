@@ -1,7 +1,8 @@
 // The bytes of an image, part by part.
 ghost use Rattle.std.specs.Prelude.{◌≡◌, ◌+◌, ◌-◌, ◌%◌, ◌++◌, length, map, slice_index, slice_set, OnOk, IfOk};
 ghost use Rattle.p8_image.specs.Keeping.{kept};
-ghost use Rattle.p8_image.specs.Layout.{word, padded, method_entries, inner_entries, linked, codes_of, texts_of, table_bytes, text_size, places_from, text_offsets, object_bytes, objects_bytes};
+ghost use Rattle.p8_image.specs.Layout.{word, padded, method_entries, inner_entries, linked, codes_of, texts_of, table_bytes, text_size, places_from};
+ghost use Rattle.p8_image.specs.Layout.{text_offsets, object_bytes, objects_bytes};
 
 use crate::parts::{MethodPart, ObjectPart, TextUse};
 use crate::sizes::{

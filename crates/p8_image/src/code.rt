@@ -9,8 +9,8 @@ use p8_bytecode::take_op;
 use p8_instr::{byte_digits, push_text};
 use p8_words::NoMemory;
 
-/// Appends bytes in digits, with a space before each.
-fn push_bytes(out: &mut Vec<u8>, bytes: &[u8]) -> Result<(), NoMemory>
+/// Appends bytes in hexadecimal digits, with a space before each. The only error is want of memory.
+pub fn push_bytes(out: &mut Vec<u8>, bytes: &[u8]) -> Result<(), NoMemory>
     ensures { OnOk result (out.new.items ≡ out.old.items ++ flat_map (λ byte. 32 ∷ hex 2 byte) bytes.now) }
 {
     for byte in bytes {
@@ -29,8 +29,8 @@ fn push_code_line(out: &mut Vec<u8>, place: u16, bytes: &[u8]) -> Result<(), NoM
     push_text(out, b"\n")
 }
 
-/// How many bytes stand on the line at the begin of a code.
-fn line_size(code: &[u8]) -> usize
+/// How many bytes stand on the line at the begin of a code: those of the bytecode there, and one where no bytecode stands whole.
+pub fn line_size(code: &[u8]) -> usize
     requires { 1 ≤ length code.now }
     ensures size { result ≡ line_size_of code.now }
     ensures some { 1 ≤ result }

@@ -1,22 +1,36 @@
 // The lines of a DAT.
-ghost use Rattle.std.specs.Prelude.{◌≡◌, ◌<◌, ◌++◌, ◌∷◌, [], length, MatchOption, OnOk};
-ghost use Rattle.p8_image.specs.Listing.{long_by, long_line, long_lines, longs_of};
+ghost use Rattle.std.specs.Prelude.{◌≡◌, ◌<◌, ◌++◌, ◌∷◌, [], codes, length, MatchOption, IfOk, OnOk};
+ghost use Rattle.p8_instr.specs.Instructions.{long_text};
+ghost use Rattle.p8_instr.specs.Numerals.{hex};
+ghost use Rattle.p8_image.specs.Listing.{long_by, long_line, long_lines, longs_of as longs_in};
 
 use crate::text::{further, push_place};
 use p8_instr::{instr_text, long_digits, push_text};
 use p8_words::NoMemory;
 use std::alloc::Global;
 
-/// Appends the line of a long.
-fn push_long_line(alloc: Global, out: &mut Vec<u8>, place: u16, long: u32) -> Result<(), NoMemory>
-    ensures { OnOk result (out.new.items ≡ out.old.items ++ long_line place long) }
+/// Appends a long without the end of its line: where it stands, its digits, and its text as an instruction. The only error is want of memory.
+pub fn push_long_head(
+    alloc: Global,
+    out: &mut Vec<u8>,
+    place: u16,
+    long: u32,
+) -> Result<(), NoMemory>
+    ensures { OnOk result (out.new.items ≡ out.old.items ++ (hex 4 place ++ codes " " ++ hex 8 long ++ codes " " ++ long_text long)) }
 {
     let text = instr_text(alloc, long)?;
     push_place(out, place)?;
     push_text(out, b" ")?;
     push_text(out, &long_digits(long))?;
     push_text(out, b" ")?;
-    push_text(out, &text)?;
+    push_text(out, &text)
+}
+
+/// Appends the line of a long.
+fn push_long_line(alloc: Global, out: &mut Vec<u8>, place: u16, long: u32) -> Result<(), NoMemory>
+    ensures { OnOk result (out.new.items ≡ out.old.items ++ long_line place long) }
+{
+    push_long_head(alloc, out, place, long)?;
     push_text(out, b"\n")
 }
 
@@ -30,7 +44,7 @@ fn long_of(a: u8, b: u8, c: u8, d: u8) -> u32
 /// The long of fewer than four bytes, with zeros after them; none where there is no byte.
 fn last_long(bytes: &[u8]) -> Option<u32>
     requires { length bytes.now < 4 }
-    ensures { MatchOption result (longs_of bytes.now ≡ []) (λ long. longs_of bytes.now ≡ long ∷ []) }
+    ensures { MatchOption result (longs_in bytes.now ≡ []) (λ long. longs_in bytes.now ≡ long ∷ []) }
 {
     match bytes {
         [a] => Some(long_of(*a, 0, 0, 0)),
@@ -40,6 +54,38 @@ fn last_long(bytes: &[u8]) -> Option<u32>
     }
 }
 
+/// The longs of some bytes, with zeros after the last byte up to a whole long. The only error is want of memory.
+pub fn longs_of(alloc: Global, bytes: &[u8]) -> Result<Vec<u32>, NoMemory>
+    ensures { IfOk result (λ longs. longs.items ≡ longs_in bytes.now) }
+{
+    let mut longs = Vec::new(alloc);
+    let mut rest = bytes;
+    while let [a, b, c, d, behind @ ..] = rest {
+        longs.extend_from_slice(&[long_of(*a, *b, *c, *d)])?;
+        rest = behind;
+    }
+    if let Some(long) = last_long(rest) {
+        longs.extend_from_slice(&[long])?;
+    }
+    Ok(longs)
+}
+
+/// Appends the lines of longs that stand one after the other from an address on.
+fn push_long_lines(
+    alloc: Global,
+    out: &mut Vec<u8>,
+    mut place: u16,
+    longs: &[u32],
+) -> Result<(), NoMemory>
+    ensures { OnOk result (out.new.items ≡ out.old.items ++ long_lines place longs.now) }
+{
+    for long in longs {
+        push_long_line(alloc, out, place, *long)?;
+        place = further(place, 4);
+    }
+    Ok(())
+}
+
 /// Appends the lines of a DAT that stands at an address, with the zeros after it.
 pub fn push_dat_lines(
     alloc: Global,
@@ -47,17 +93,8 @@ pub fn push_dat_lines(
     place: u16,
     dat: &[u8],
 ) -> Result<(), NoMemory>
-    ensures { OnOk result (out.new.items ≡ out.old.items ++ long_lines place (longs_of dat.now)) }
+    ensures { OnOk result (out.new.items ≡ out.old.items ++ long_lines place (longs_in dat.now)) }
 {
-    let mut place = place;
-    let mut rest = dat;
-    while let [a, b, c, d, behind @ ..] = rest {
-        push_long_line(alloc, out, place, long_of(*a, *b, *c, *d))?;
-        place = further(place, 4);
-        rest = behind;
-    }
-    match last_long(rest) {
-        Some(long) => push_long_line(alloc, out, place, long),
-        None => Ok(()),
-    }
+    let longs = longs_of(alloc, dat)?;
+    push_long_lines(alloc, out, place, &longs)
 }

@@ -2,7 +2,8 @@
 ghost use Rattle.std.specs.Prelude.{◌≡◌, ◌≤◌, ◌+◌, ◌-◌, ◌%◌, ◌++◌, ◌<◌, length, replicate, slice_set, sum, take, Some, None, IfOk, OnOk, IfErr};
 ghost use Rattle.p8_access.specs.Proper.{IsProperOrigin};
 ghost use Rattle.p8_image.specs.Headers.{header_of};
-ghost use Rattle.p8_image.specs.Loading.{first_fault, eeprom_fault, first_unmet, header_demands, ends_at_a_long, IsImage, IsEeprom, IsRefusal, image_in, image_in_eeprom, binary_of, memory_of, with_checksum, start_of, frame_mark};
+ghost use Rattle.p8_image.specs.Loading.{first_fault, eeprom_fault, first_unmet, header_demands, ends_at_a_long, IsImage, IsEeprom, IsRefusal};
+ghost use Rattle.p8_image.specs.Loading.{image_in, image_in_eeprom, binary_of, memory_of, with_checksum, start_of, frame_mark};
 
 use crate::faults::{Field, LoadFault};
 use crate::header::{HEADER_BYTES, Header};

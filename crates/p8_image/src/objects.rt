@@ -1,5 +1,7 @@
 // The lines of an object.
-ghost use Rattle.std.specs.Prelude.{◌≡◌, ◌++◌, slice_index, OnOk};
+ghost use Rattle.std.specs.Prelude.{◌≡◌, ◌++◌, codes, slice_index, OnOk};
+ghost use Rattle.std.specs.Fmt.{decimal};
+ghost use Rattle.p8_instr.specs.Numerals.{hex};
 ghost use Rattle.p8_image.specs.Layout.{codes_of, text_offsets};
 ghost use Rattle.p8_image.specs.Listing.{method_line, method_lines, object_line, object_lines};
 ghost use Rattle.p8_image.specs.Cutting.{cut_lines};
@@ -15,8 +17,8 @@ use p8_instr::push_text;
 use p8_words::NoMemory;
 use std::alloc::Global;
 
-/// Appends the line of an object.
-fn push_object_line(out: &mut Vec<u8>, name: &[u8], base: u16) -> Result<(), NoMemory>
+/// Appends the line of an object: the name of its file, and where it begins. The only error is want of memory.
+pub fn push_object_line(out: &mut Vec<u8>, name: &[u8], base: u16) -> Result<(), NoMemory>
     ensures { OnOk result (out.new.items ≡ out.old.items ++ object_line name.now base) }
 {
     push_text(out, b"object ")?;
@@ -26,14 +28,21 @@ fn push_object_line(out: &mut Vec<u8>, name: &[u8], base: u16) -> Result<(), NoM
     push_text(out, b"\n")
 }
 
-/// Appends the line of a method.
-fn push_method_line(out: &mut Vec<u8>, number: u64, place: u16) -> Result<(), NoMemory>
-    ensures { OnOk result (out.new.items ≡ out.old.items ++ method_line number place) }
+/// Appends the line of a method without its end: its number, and where its code begins. The only error is want of memory.
+pub fn push_method_head(out: &mut Vec<u8>, number: u64, place: u16) -> Result<(), NoMemory>
+    ensures { OnOk result (out.new.items ≡ out.old.items ++ (codes "method " ++ decimal number ++ codes " " ++ hex 4 place)) }
 {
     push_text(out, b"method ")?;
     push_text(out, Buffer::new().format(number).as_bytes())?;
     push_text(out, b" ")?;
-    push_place(out, place)?;
+    push_place(out, place)
+}
+
+/// Appends the line of a method.
+fn push_method_line(out: &mut Vec<u8>, number: u64, place: u16) -> Result<(), NoMemory>
+    ensures { OnOk result (out.new.items ≡ out.old.items ++ method_line number place) }
+{
+    push_method_head(out, number, place)?;
     push_text(out, b"\n")
 }
 

@@ -1,7 +1,8 @@
 // How many bytes objects and their variables have.
 ghost use Rattle.std.specs.Prelude.{◌≡◌, ◌<◌, ◌+◌, ◌%◌, ◌^◌};
 ghost use Rattle.p8_image.specs.Keeping.{kept};
-ghost use Rattle.p8_image.specs.Layout.{total, variable_size, text_size, whole_longs, own_variables, dat_offset, code_size, codes_offset, texts_offset, size_of};
+ghost use Rattle.p8_image.specs.Layout.{total, variable_size, text_size, whole_longs, own_variables, dat_offset, code_size, codes_offset};
+ghost use Rattle.p8_image.specs.Layout.{texts_offset, size_of};
 
 use crate::parts::{MethodPart, ObjectPart, Variable};
 use p8_tree::Text;

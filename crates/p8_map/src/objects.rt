@@ -127,8 +127,8 @@ fn push_labels(out: &mut Vec<u8>, base: u16, labels: &[Label]) -> Result<(), NoM
     Ok(())
 }
 
-/// Appends the line of a text.
-fn push_text_line(out: &mut Vec<u8>, place: u16, text: &[u8]) -> Result<(), NoMemory>
+/// Appends the line of a text that stands at an address: the address, `string`, and the items of a `STRING`. The only error is want of memory.
+pub fn push_text_line(out: &mut Vec<u8>, place: u16, text: &[u8]) -> Result<(), NoMemory>
     ensures { OnOk result (out.new.items ≡ out.old.items ++ text_line place text.now) }
 {
     push_place(out, place)?;

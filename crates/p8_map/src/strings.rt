@@ -91,7 +91,7 @@ fn push_stretches(out: &mut Vec<u8>, mut text: &[u8]) -> Result<(), NoMemory>
     Ok(())
 }
 
-/// Appends a text as the items of a `STRING`: stretches of characters in quotes, and other bytes as numbers.
+/// Appends a text as the items of a `STRING`: stretches of characters in quotes, and other bytes as numbers. The only error is want of memory.
 pub fn push_items(out: &mut Vec<u8>, text: &[u8]) -> Result<(), NoMemory>
     ensures { OnOk result (out.new.items ≡ out.old.items ++ items_text text.now) }
 {

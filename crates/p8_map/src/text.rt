@@ -9,14 +9,14 @@ use itoa::Buffer;
 use p8_instr::{push_text, word_digits};
 use p8_words::NoMemory;
 
-/// Appends an address.
+/// Appends an address in four hexadecimal digits. The only error is want of memory.
 pub fn push_place(out: &mut Vec<u8>, place: u16) -> Result<(), NoMemory>
     ensures { OnOk result (out.new.items ≡ out.old.items ++ hex 4 place) }
 {
     push_text(out, &word_digits(u32::from(place)))
 }
 
-/// Appends a number in decimal digits.
+/// Appends a number in decimal digits. The only error is want of memory.
 pub fn push_number(out: &mut Vec<u8>, number: u64) -> Result<(), NoMemory>
     ensures { OnOk result (out.new.items ≡ out.old.items ++ decimal number) }
 {
