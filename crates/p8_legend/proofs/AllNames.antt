@@ -91,7 +91,7 @@ abbrev pub Rise : (low high : ℕ) → List Label → Type 0
 Rise low high [] = low ≤ high
 Rise low high (label ∷ labels) = (low ≤ label.offset) × Rise label.offset high labels
 
-rise-end : (low high : ℕ) (labels : List Label) → Rise low high labels → low ≤ high
+pub rise-end : (low high : ℕ) (labels : List Label) → Rise low high labels → low ≤ high
 rise-end low high [] is = is
 rise-end low high (label ∷ labels) is = let rest = rise-end label.offset high labels is.1 in let first = is.0 in omega (arith, rest, first)
 
@@ -205,7 +205,7 @@ module _ (t : List ℕ) (r : Range) where
 abbrev pub LabelsRise : FileNames → ObjectPart → Type 0
 LabelsRise names object = Rise 0 (codes_offset object) names.labels
 
-object-up : (n : Named) (prefix : List ℕ) (base : ℕ) (names : FileNames) (object : ObjectPart) → IsUpTo n base → base + size_of object < 65536 → LabelsRise names object
+pub object-up : (n : Named) (prefix : List ℕ) (base : ℕ) (names : FileNames) (object : ObjectPart) → IsUpTo n base → base + size_of object < 65536 → LabelsRise names object
     → IsUpTo (with_object n prefix base names object) (base + size_of object)
 object-up n prefix base names object up room rise =
     let high : ℕ = codes_offset object in

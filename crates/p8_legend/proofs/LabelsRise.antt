@@ -19,7 +19,7 @@ use Rattle.p8_legend.proofs.AllNames.{Rise}
 
 -- ---- labels
 
-lower : (start from to : ℕ) (labels : List Label) → start ≤ from → Rise from to labels → Rise start to labels
+pub lower : (start from to : ℕ) (labels : List Label) → start ≤ from → Rise from to labels → Rise start to labels
 lower start from to [] less is = omega (arith, less, is)
 lower start from to (label ∷ labels) less is = let first = is.0 in (omega (arith, less, first), is.1)
 
@@ -39,7 +39,7 @@ items-forward s size (x ∷ xs) p low =
     let first = rest.0 in
     (omega (arith, first, low), rest.1)
 
-begun-forward : (s : Setting) (c : Contents) (p : Spot) → p.offset ≤ limit → (p.offset ≤ (begun s c p).offset) × ((begun s c p).offset ≤ limit)
+pub begun-forward : (s : Setting) (c : Contents) (p : Spot) → p.offset ≤ limit → (p.offset ≤ (begun s c p).offset) × ((begun s c p).offset ≤ limit)
 begun-forward s trees.Nothing p low = (omega (arith, low), omega arith)
 begun-forward s (trees.Data size xs) p low = (omega (arith, low), omega arith)
 begun-forward s (trees.Org e) p low = (omega (arith, low), omega arith)
@@ -47,7 +47,7 @@ begun-forward s (trees.Res e) p low = (omega (arith, low), omega arith)
 begun-forward s (trees.Fit e) p low = (omega (arith, low), omega arith)
 begun-forward s (trees.Instr x) p low = (omega (arith, low), omega arith)
 
-ended-forward : (s : Setting) (c : Contents) (p : Spot) → p.offset ≤ limit → (p.offset ≤ (ended s c p).offset) × ((ended s c p).offset ≤ limit)
+pub ended-forward : (s : Setting) (c : Contents) (p : Spot) → p.offset ≤ limit → (p.offset ≤ (ended s c p).offset) × ((ended s c p).offset ≤ limit)
 ended-forward s trees.Nothing p low = (omega arith, low)
 ended-forward s (trees.Data size xs) p low = items-forward s size xs p low
 ended-forward s (trees.Org e) p low = (omega arith, low)
@@ -69,7 +69,7 @@ lines-rise kinds s (x ∷ xs) p low =
     (lower at.offset (behind s x p).offset (p.offset + lines_size s (placed s (x ∷ xs) p)) (labels_of kinds (placed s xs (behind s x p))) to
     (subst (λ n. Rise (behind s x p).offset n (labels_of kinds (placed s xs (behind s x p)))) end rest))
 
-higher : (from mid to : ℕ) (labels : List Label) → mid ≤ to → Rise from mid labels → Rise from to labels
+pub higher : (from mid to : ℕ) (labels : List Label) → mid ≤ to → Rise from mid labels → Rise from to labels
 higher from mid to [] less is = omega (arith, less, is)
 higher from mid to (label ∷ labels) less is = (is.0, higher label.offset mid to labels less is.1)
 

@@ -26,3 +26,4 @@ mod Kinded
 mod KindedProject
 mod FrameAccesses
 mod LocalNames
+mod DatLinesTold

@@ -224,7 +224,7 @@ names-from (s ∷ sources) (f ∷ files) (d ∷ cs) (y ∷ xs) zero names file s
 )
 names-from (s ∷ sources) (f ∷ files) (d ∷ cs) (y ∷ xs) (suc i) names file seen x at a b c = names-from sources files cs xs i names file seen x at a b c
 
-numbered-few : (source : Source) (seen : Children) (top : Bool) (x : CompiledFile) → IsCompiled source seen top x → data_start (setting_of seen x) source ≤ limit
+pub numbered-few : (source : Source) (seen : Children) (top : Bool) (x : CompiledFile) → IsCompiled source seen top x → data_start (setting_of seen x) source ≤ limit
 numbered-few source seen top x is =
     let one = instances-few source seen top x is.names in
     let other = few-methods source seen x is.code one in

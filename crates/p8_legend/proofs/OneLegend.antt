@@ -10,7 +10,7 @@ use Rattle.p8_image.specs.declared.clocks.Clock.{Clock}
 use Rattle.p8_image.specs.Headers.{word_at}
 use Rattle.p8_image.specs.Layout.{image_of}
 use Rattle.p8_stmt.specs.declared.code.MethodCode.{MethodCode}
-use Rattle.p8_build.specs.Files.{CompiledFile, setting_of, IsCompiled}
+use Rattle.p8_build.specs.Files.{CompiledFile, line_begins, setting_of, IsCompiled}
 use Rattle.p8_build.specs.Builds.{AreCompiled, IsBuilt, IsFile, objects_of}
 use Rattle.p8_build.proofs.One.{alike, same_labels, same_setting, same_codes}
 use Rattle.p8_build.proofs.Wholes.{one_clock, one_objects}
@@ -21,6 +21,7 @@ use Rattle.p8_map.specs.declared.names.FileNames.{FileNames}
 use Rattle.p8_map.specs.Names.{file_names}
 use Rattle.p8_map.specs.Projects.{names_of}
 use Rattle.p8_legend.specs.ProjectLegends.{Named, names_in, with_rows}
+use Rattle.p8_legend.specs.DatLines.{dats_of, with_dats}
 use Rattle.p8_legend.specs.Frames.{with_locals}
 use Rattle.p8_legend.specs.Projects.{IsLegendOf, AreSame}
 
@@ -46,13 +47,14 @@ record AreTwo (fs : List NamedSource) (cs : List Children) (xs ys : List Compile
   others : length ys ≡ length fs
   names : (i : ℕ) (t : List ℕ) (f : NamedSource) (c : Children) (x y : CompiledFile) → slice_get fs i ≡ Some f → slice_get cs i ≡ Some c → slice_get xs i ≡ Some x → slice_get ys i ≡ Some y → names_by t f c x ≡ names_by t f c y
   codes : (i : ℕ) (f : NamedSource) (c : Children) (x y : CompiledFile) → slice_get fs i ≡ Some f → slice_get cs i ≡ Some c → slice_get xs i ≡ Some x → slice_get ys i ≡ Some y → x.codes ≡ y.codes
+  settings : (i : ℕ) (f : NamedSource) (c : Children) (x y : CompiledFile) → slice_get fs i ≡ Some f → slice_get cs i ≡ Some c → slice_get xs i ≡ Some x → slice_get ys i ≡ Some y → setting_of c x ≡ setting_of c y
 
 behind : (f : NamedSource) (fs : List NamedSource) (c : Children) (cs : List Children) (x : CompiledFile) (xs : List CompiledFile) (y : CompiledFile) (ys : List CompiledFile) → AreTwo (f ∷ fs) (c ∷ cs) (x ∷ xs) (y ∷ ys) → AreTwo fs cs xs ys
 behind f fs c cs x xs y ys two =
     let beside = two.beside in
     let ones = two.ones in
     let others = two.others in
-    record { beside = omega (arith, beside); ones = omega (arith, ones); others = omega (arith, others); names = λ i. two.names (suc i); codes = λ i. two.codes (suc i) }
+    record { beside = omega (arith, beside); ones = omega (arith, ones); others = omega (arith, others); names = λ i. two.names (suc i); codes = λ i. two.codes (suc i); settings = λ i. two.settings (suc i) }
 
 names-same : (ts : List (List ℕ)) (fs : List NamedSource) (cs : List Children) (xs ys : List CompiledFile) → AreTwo fs cs xs ys → names_of ts fs cs xs ≡ names_of ts fs cs ys
 names-same [] fs cs xs ys two = refl
@@ -73,6 +75,14 @@ codes-same (f ∷ fs) (c ∷ cs) (x ∷ xs) [] two = absurd (omega (arith, two.o
 codes-same (f ∷ fs) (c ∷ cs) (x ∷ xs) (y ∷ ys) two =
     ap (λ (o : List MethodCode). o ∷ codes_of xs) (two.codes 0 f c x y refl refl refl refl) ∙ ap (λ os. y.codes ∷ os) (codes-same fs cs xs ys (behind f fs c cs x xs y ys two))
 
+dats-same : (fs : List NamedSource) (cs : List Children) (xs ys : List CompiledFile) → AreTwo fs cs xs ys → dats_of fs cs xs ≡ dats_of fs cs ys
+dats-same [] cs xs ys two = refl
+dats-same (f ∷ fs) [] xs ys two = absurd (omega (arith, two.beside))
+dats-same (f ∷ fs) (c ∷ cs) [] ys two = absurd (omega (arith, two.ones))
+dats-same (f ∷ fs) (c ∷ cs) (x ∷ xs) [] two = absurd (omega (arith, two.others))
+dats-same (f ∷ fs) (c ∷ cs) (x ∷ xs) (y ∷ ys) two =
+    ap (λ (s : Setting). line_begins s f.tree ∷ dats_of fs cs xs) (two.settings 0 f c x y refl refl refl refl) ∙ ap (λ os. line_begins (setting_of c y) f.tree ∷ os) (dats-same fs cs xs ys (behind f fs c cs x xs y ys two))
+
 -- all files, however they are compiled
 both-ways : (files : List NamedSource) (children : List Children) (xs ys : List CompiledFile) → length children ≡ length files → AreCompiled files children xs → AreCompiled files children ys → AreTwo files children xs ys
 both-ways files children xs ys beside a b = record {
@@ -85,6 +95,11 @@ both-ways files children xs ys beside a b = record {
   codes = λ i f c x y at_f at_c at_x at_y.
       let is : IsFile files children i f c = record { stands = at_f; beside = at_c } in
       one-code f c (i == 0) x y (a.each i f c x is at_x) (b.each i f c y is at_y);
+  settings = λ i f c x y at_f at_c at_x at_y.
+      let is : IsFile files children i f c = record { stands = at_f; beside = at_c } in
+      let one = a.each i f c x is at_x in
+      let other = b.each i f c y is at_y in
+      same_setting f.tree c x.kinds y.kinds (alike f.tree c (i == 0) x.kinds y.kinds one.names other.names);
 }
 
 -- the names, the places and the locals of a legend, by what the files are compiled to
@@ -93,6 +108,9 @@ named_by sources files clock xs children = names_in (word_at (image_of clock (ob
 
 abbrev placed_by : (sources : List (List ℕ)) → List NamedSource → List CompiledFile → List Children → Named
 placed_by sources files xs children = with_rows ([], []) (names_of sources files children xs) (rows_from 0 16 (objects_of files children xs) (codes_of xs))
+
+abbrev lined_by : (sources : List (List ℕ)) → List NamedSource → List CompiledFile → List Children → Named
+lined_by sources files xs children = with_dats ([], []) 16 (names_of sources files children xs) (objects_of files children xs) (dats_of files children xs)
 
 abbrev local_by : (sources : List (List ℕ)) → List NamedSource → Clock → List CompiledFile → List Children → Named
 local_by sources files clock xs children = with_locals ([], []) (image_of clock (objects_of files children xs)) (names_of sources files children xs) (rows_from 0 16 (objects_of files children xs) (codes_of xs))
@@ -107,6 +125,7 @@ legend-one sources files view a b p q =
     let objects : objects_of files p.children p.compiled ≡ objects_of files p.children q.compiled = one_objects files p.children p.compiled q.compiled p.seen.one_each p.each each in
     let names : names_of sources files p.children p.compiled ≡ names_of sources files p.children q.compiled = names-same sources files p.children p.compiled q.compiled two in
     let codes : codes_of p.compiled ≡ codes_of q.compiled = codes-same files p.children p.compiled q.compiled two in
+    let dats : dats_of files p.children p.compiled ≡ dats_of files p.children q.compiled = dats-same files p.children p.compiled q.compiled two in
     record {
       names = p.names
           ∙ (λ i. names_in (word_at (image_of (clock i) (objects i)) 8) (names i) (objects i))
@@ -116,6 +135,10 @@ legend-one sources files view a b p q =
           ∙ (λ i. with_rows ([], []) (names i) (rows_from 0 16 (objects i) (codes i)))
           ∙ ap (placed_by sources files q.compiled) (sym same)
           ∙ sym q.places;
+      lines = p.lines
+          ∙ (λ i. with_dats ([], []) 16 (names i) (objects i) (dats i))
+          ∙ ap (lined_by sources files q.compiled) (sym same)
+          ∙ sym q.lines;
       locals = p.locals
           ∙ (λ i. with_locals ([], []) (image_of (clock i) (objects i)) (names i) (rows_from 0 16 (objects i) (codes i)))
           ∙ ap (local_by sources files q.clock q.compiled) (sym same)

@@ -65,10 +65,10 @@ all-rows files ranges texts (row ∷ rows) apart behind =
 
 -- ---- the row that holds an address
 
-held : (address : ℕ) (r : Range) {X : Type 0} (x y : X) → r.address ≤ address → address < r.end → (if holds address r then x else y) ≡ x
+pub held : (address : ℕ) (r : Range) {X : Type 0} (x y : X) → r.address ≤ address → address < r.end → (if holds address r then x else y) ≡ x
 held address r x y from to = grind (arith, nat_tests)
 
-past : (address : ℕ) (r : Range) {X : Type 0} (x y : X) → r.end ≤ address → (if holds address r then x else y) ≡ y
+pub past : (address : ℕ) (r : Range) {X : Type 0} (x y : X) → r.end ≤ address → (if holds address r then x else y) ≡ y
 past address r x y behind = grind (arith, nat_tests)
 
 pub found-row : (rows : List Row) (address : ℕ) → AreApart rows → (n : ℕ) (row : Row) → slice_get rows n ≡ Some row → row.address ≤ address → address < row.end
@@ -136,7 +136,7 @@ all-at P [] k x all at = absurd (none-some x at)
 all-at P (y ∷ xs) zero x all at = subst P (same_Some y x at) (All-head P y xs all)
 all-at P (y ∷ xs) (suc k) x all at = all-at P xs k x (All-tail P y xs all) at
 
-names-at : (sources : List (List ℕ)) (files : List NamedSource) (cs : List Children) (xs : List CompiledFile) (i : ℕ) (bytes : List ℕ) (file : NamedSource) (seen : Children) (x : CompiledFile)
+pub names-at : (sources : List (List ℕ)) (files : List NamedSource) (cs : List Children) (xs : List CompiledFile) (i : ℕ) (bytes : List ℕ) (file : NamedSource) (seen : Children) (x : CompiledFile)
     → slice_get sources i ≡ Some bytes → slice_get files i ≡ Some file → slice_get cs i ≡ Some seen → slice_get xs i ≡ Some x → slice_get (names_of sources files cs xs) i ≡ Some (file_names (text_in bytes) file (setting_of seen x) x.labels)
 names-at [] files cs xs i bytes file seen x s a b c = absurd (none-some bytes s)
 names-at (t ∷ sources) [] cs xs i bytes file seen x s a b c = absurd (none-some file a)

@@ -18,7 +18,7 @@ named_text names address (Some found) = text_of names.texts found.number ++ offs
 abbrev pub address_text : Ranges → (address : ℕ) → List ℕ
 address_text names address = named_text names address (found_at names.ranges address)
 
--- the place of the bytecode at an address, where one is known
+-- the place of the bytecode at an address, or of the line of DAT, where one is known
 abbrev pub found_text : Ranges → Option Found → List ℕ
 found_text places None = []
 found_text places (Some found) = codes " " ++ text_of places.texts found.number

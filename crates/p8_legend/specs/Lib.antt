@@ -6,6 +6,8 @@ pub mod ProjectLegends
 pub mod Projects
 -- What bytecodes name in the frames of their methods.
 pub mod Frames
+-- The lines of DAT.
+pub mod DatLines
 -- How the code goes: internal.
 pub mod Finding
 pub mod Steps

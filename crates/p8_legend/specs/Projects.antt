@@ -13,6 +13,7 @@ use Rattle.p8_legend.specs.declared.legend.Legend.{Legend}
 use Rattle.p8_legend.specs.Rows.{codes_of, rows_from}
 use Rattle.p8_map.specs.Projects.{names_of}
 use Rattle.p8_legend.specs.ProjectLegends.{Named, names_in, with_rows}
+use Rattle.p8_legend.specs.DatLines.{dats_of, with_dats}
 use Rattle.p8_legend.specs.Frames.{with_locals}
 
 -- the project is accepted, and this is the legend of its image, by the names of its files, whose bytes these are, and the lines of their codes
@@ -29,6 +30,8 @@ pub record IsLegendOf (sources : List (List ℕ)) (files : List NamedSource) (le
       (objects_of files children compiled)
   pub places : (legend.places.ranges, legend.places.texts)
       ≡ with_rows ([], []) (names_of sources files children compiled) (rows_from 0 16 (objects_of files children compiled) (codes_of compiled))
+  pub lines : (legend.lines.ranges, legend.lines.texts)
+      ≡ with_dats ([], []) 16 (names_of sources files children compiled) (objects_of files children compiled) (dats_of files children compiled)
   pub locals : (legend.locals.ranges, legend.locals.texts)
       ≡ with_locals ([], []) (image_of clock (objects_of files children compiled)) (names_of sources files children compiled)
       (rows_from 0 16 (objects_of files children compiled) (codes_of compiled))
@@ -37,4 +40,5 @@ pub record IsLegendOf (sources : List (List ℕ)) (files : List NamedSource) (le
 pub record AreSame (a b : Legend) : Type 0 where
   pub names : ◌≡◌ {A = Named} (a.names.ranges, a.names.texts) (b.names.ranges, b.names.texts)
   pub places : ◌≡◌ {A = Named} (a.places.ranges, a.places.texts) (b.places.ranges, b.places.texts)
+  pub lines : ◌≡◌ {A = Named} (a.lines.ranges, a.lines.texts) (b.lines.ranges, b.lines.texts)
   pub locals : ◌≡◌ {A = Named} (a.locals.ranges, a.locals.texts) (b.locals.ranges, b.locals.texts)

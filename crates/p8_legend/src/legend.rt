@@ -18,6 +18,8 @@ pub struct Legend {
     pub names: Ranges,
     /// For each bytecode the place of its statement: `FILE:LINE METHOD`.
     pub places: Ranges,
+    /// For each line of DAT its place: `FILE:LINE`.
+    pub lines: Ranges,
     /// For each bytecode what it names in the frame of its method, `METHOD.NAME`: its result, a parameter or a local. It is empty where
     /// the bytecode names nothing there by itself.
     pub locals: Ranges,
@@ -28,12 +30,14 @@ impl Legend {
     pub fn empty(alloc: Global) -> Legend
         ensures names { result.names.ranges ≡ [] }
         ensures places { result.places.ranges ≡ [] }
+        ensures lines { result.lines.ranges ≡ [] }
         ensures locals { result.locals.ranges ≡ [] }
-        ensures texts { (result.names.texts ≡ []) × (result.places.texts ≡ []) × (result.locals.texts ≡ []) }
+        ensures texts { (result.names.texts ≡ []) × (result.places.texts ≡ []) × (result.lines.texts ≡ []) × (result.locals.texts ≡ []) }
     {
         Legend {
             names: Ranges::new(alloc),
             places: Ranges::new(alloc),
+            lines: Ranges::new(alloc),
             locals: Ranges::new(alloc),
         }
     }
@@ -43,13 +47,7 @@ impl Legend {
     pub fn push_address(&self, out: &mut Vec<u8>, address: u16) -> Result<(), NoMemory>
         ensures { OnOk result (out.new.items ≡ out.old.items ++ address_text self.now.names address) }
     {
-        match self.names.find(address) {
-            None => push_text(out, &word_digits(u32::from(address))),
-            Some(found) => {
-                push_text(out, self.names.text(found.number))?;
-                push_offset(out, u64::from(found.offset))
-            }
-        }
+        push_address(&self.names, out, address)
     }
 
     /// The address of the variable, the label or the method's code of this name, and how many bytes it has. Letters in either case are the
@@ -79,15 +77,43 @@ impl Legend {
     pub fn push_place(&self, out: &mut Vec<u8>, counter: Option<u16>) -> Result<(), NoMemory>
         ensures { OnOk result (out.new.items ≡ out.old.items ++ place_text self.now.places counter) }
     {
-        let Some(address) = counter else {
-            return Ok(());
-        };
-        match self.places.find(address) {
-            None => Ok(()),
-            Some(found) => {
-                push_text(out, b" ")?;
-                push_text(out, self.places.text(found.number))
-            }
+        push_found(out, &self.places, counter)
+    }
+
+    /// Appends a space and the place of the line of DAT that has an address; nothing where none is known. The only error is want of memory.
+    pub fn push_line(&self, out: &mut Vec<u8>, counter: Option<u16>) -> Result<(), NoMemory>
+        ensures { OnOk result (out.new.items ≡ out.old.items ++ place_text self.now.lines counter) }
+    {
+        push_found(out, &self.lines, counter)
+    }
+}
+
+/// Appends a space and the text of the range that has an address; nothing where there is none.
+fn push_found(out: &mut Vec<u8>, places: &Ranges, counter: Option<u16>) -> Result<(), NoMemory>
+    ensures { OnOk result (out.new.items ≡ out.old.items ++ place_text places.now counter) }
+{
+    let Some(address) = counter else {
+        return Ok(());
+    };
+    match places.find(address) {
+        None => Ok(()),
+        Some(found) => {
+            push_text(out, b" ")?;
+            push_text(out, places.text(found.number))
+        }
+    }
+}
+
+/// Appends an address by the name of the range in which it lies, with `+` and how many bytes of it come before, where there are any; or in four
+/// hexadecimal digits. The only error is want of memory.
+pub fn push_address(names: &Ranges, out: &mut Vec<u8>, address: u16) -> Result<(), NoMemory>
+    ensures { OnOk result (out.new.items ≡ out.old.items ++ address_text names.now address) }
+{
+    match names.find(address) {
+        None => push_text(out, &word_digits(u32::from(address))),
+        Some(found) => {
+            push_text(out, names.text(found.number))?;
+            push_offset(out, u64::from(found.offset))
         }
     }
 }

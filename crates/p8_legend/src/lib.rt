@@ -4,6 +4,8 @@
 #![tactic(auto)]
 
 mod code_laws;
+mod dat_laws;
+mod dat_lines;
 mod instances;
 mod laws;
 mod legend;
@@ -27,14 +29,17 @@ mod table_laws;
 mod variables;
 
 pub use code_laws::{lines_are_of_their_statements, lines_begin_where_bytecodes_do};
+pub use dat_laws::addresses_of_dat_have_their_lines;
 pub use laws::one_legend;
-pub use legend::Legend;
+pub use legend::{Legend, push_address};
 pub use life_laws::{accesses_are_asked_by_their_lines, bytecodes_stand_at_their_lines};
 pub use local_laws::locals_are_named_by_their_frames;
+pub use locals::push_frame;
 pub use name_laws::{
     maps_tell_where_the_image_has_it, names_stand_by_their_kinds,
     names_stand_where_the_image_has_them,
 };
+pub use objects::label_names;
 pub use parts::legend_of_parts;
 pub use place_laws::{places_are_those_of_rows, turns_have_the_places_of_their_statements};
 pub use project::table_of_accepted;
@@ -49,3 +54,4 @@ pub use table::{LineTable, Row};
 pub use table_laws::{
     each_byte_of_code_has_a_row, rows_are_of_their_methods, table_tells_each_address_once,
 };
+pub use variables::variable_names;

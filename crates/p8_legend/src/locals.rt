@@ -113,8 +113,8 @@ fn result_name(names: &MethodNames) -> &[u8]
     }
 }
 
-/// Appends what stands so many bytes behind the begin of a method's frame; nothing where no name does.
-fn push_frame(out: &mut Vec<u8>, names: &MethodNames, offset: u64) -> Result<(), NoMemory>
+/// Appends what stands so many bytes behind the begin of a method's frame, `METHOD.NAME`; nothing where no name does. The only error is want of memory.
+pub fn push_frame(out: &mut Vec<u8>, names: &MethodNames, offset: u64) -> Result<(), NoMemory>
     ensures { OnOk result (out.new.items ≡ out.old.items ++ frame_text names.now offset) }
 {
     let method = names.name.as_slice();

@@ -14,7 +14,7 @@ use p8_words::NoMemory;
 use std::alloc::Global;
 
 /// Where the first object of an image stands: after the image's header.
-const FIRST_BASE: u16 = 16;
+pub(crate) const FIRST_BASE: u16 = 16;
 
 /// A name behind a prefix.
 pub(crate) fn named(alloc: Global, prefix: &[u8], name: &[u8]) -> Result<Text, NoMemory>
@@ -57,6 +57,15 @@ fn push_labels(
         labels = rest;
     }
     Ok(())
+}
+
+/// The names of an object's labels, by where they stand in the object, in which its codes begin at an offset. The only error is want of memory.
+pub fn label_names(alloc: Global, codes: u16, labels: &[Label]) -> Result<Ranges, NoMemory>
+    ensures { IfOk result (λ names. (names.ranges, names.texts) ≡ with_labels ([], []) [] 0 codes labels.now) }
+{
+    let mut names = Ranges::new(alloc);
+    push_labels(alloc, &mut names, b"", 0, codes, labels)?;
+    Ok(names)
 }
 
 /// Puts the methods of an object, whose codes stand one after the other, behind the names so far.

@@ -62,6 +62,7 @@ pub fn legend_of_accepted(
         variables_at(image),
         names.as_slice(),
         built.objects.as_slice(),
+        accepted.files.as_slice(),
         &table,
     )
 }

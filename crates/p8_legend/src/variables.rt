@@ -1,5 +1,5 @@
 // The names of the variables of an instance.
-ghost use Rattle.std.specs.Prelude.{◌≡◌, ◌++◌, OnOk};
+ghost use Rattle.std.specs.Prelude.{◌≡◌, ◌++◌, [], IfOk, OnOk};
 ghost use Rattle.p8_legend.specs.ProjectLegends.{and_if, with_sized, with_variables};
 
 use crate::objects::named;
@@ -74,4 +74,17 @@ pub(crate) fn push_variables(
     push_sized(alloc, names, 4, longs, prefix, texts, variables)?;
     push_sized(alloc, names, 2, words, prefix, texts, variables)?;
     push_sized(alloc, names, 1, bytes, prefix, texts, variables)
+}
+
+/// The names of an object's variables, by how far they stand behind the begin of the object's variables. The only error is want of memory.
+pub fn variable_names(
+    alloc: Global,
+    texts: &[Text],
+    variables: &[Variable],
+) -> Result<Ranges, NoMemory>
+    ensures { IfOk result (λ names. (names.ranges, names.texts) ≡ with_variables ([], []) 0 [] texts.now variables.now) }
+{
+    let mut names = Ranges::new(alloc);
+    push_variables(alloc, &mut names, 0, b"", texts, variables)?;
+    Ok(names)
 }
