@@ -5,3 +5,4 @@ mod Joined
 mod Missed
 mod Unchanged
 mod Counters
+mod Placed

@@ -72,5 +72,12 @@ of_eight [] i d proper h = absurd (omega (arith, h))
 of_eight (turn ∷ turns) zero d proper h = proper.0.0
 of_eight (turn ∷ turns) (suc i) d proper h = of_eight turns i d proper.1 (omega (arith, h))
 
-pub doings_more : (turns : List Turn) (i : ℕ) (d : Turn) (c : Doings) → i < length turns → AreDoings (get_or turns i d ∷ reverse (take i turns)) c → AreDoings (reverse (take (i + 1) turns)) c
-doings_more turns i d c h are = subst (λ (past : List Turn). AreDoings past c) (sym (next turns i d h)) are
+-- all turns
+pub whole : (turns : List Turn) (i : ℕ) → length turns ≤ i → take i turns ≡ turns
+whole [] zero h = refl
+whole [] (suc i) h = refl
+whole (turn ∷ turns) zero h = absurd (omega (arith, h))
+whole (turn ∷ turns) (suc i) h = ap (λ (ts : List Turn). turn ∷ ts) (whole turns i (omega (arith, h)))
+
+pub doings_more : (w : World) (counters : List (Option ℕ)) (turns : List Turn) (i : ℕ) (d : Turn) (c : Doings) → i < length turns → AreDoings w counters (get_or turns i d ∷ reverse (take i turns)) c → AreDoings w counters (reverse (take (i + 1) turns)) c
+doings_more w counters turns i d c h are = subst (λ (past : List Turn). AreDoings w counters past c) (sym (next turns i d h)) are

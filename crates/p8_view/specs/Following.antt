@@ -1,12 +1,12 @@
 -- internal: what the code keeps of a past.
-use Rattle.std.specs.Prelude.{ℕ, ◌≡◌, List, map}
+use Rattle.std.specs.Prelude.{ℕ, ◌≡◌, List, Option, map}
 use Rattle.p8_access.specs.declared.order.Turn.{Turn}
 use Rattle.p8_access.specs.Worlds.{World}
 use Rattle.p8_access.specs.Hub.{cogs, cog_state, origin_of}
 use Rattle.p8_access.specs.Pins.{outa_of, dira_of}
 use Rattle.p8_view.specs.declared.cogs.Cogs.{Cogs}
 use Rattle.p8_view.specs.declared.doings.Doings.{Doings}
-use Rattle.p8_view.specs.Ending.{doing, last_of}
+use Rattle.p8_view.specs.Ending.{doing, last_asking, last_of}
 use Rattle.p8_view.specs.View.{loading}
 
 -- of each cog what it was started with, how many reads of its load are left, and its registers OUTA and DIRA
@@ -16,7 +16,8 @@ pub record AreCogs (w : World) (past : List Turn) (c : Cogs) : Type 0 where
   pub outa : c.outa ≡ map (λ (n : ℕ). outa_of past n) cogs
   pub dira : c.dira ≡ map (λ (n : ℕ). dira_of past n) cogs
 
--- of each cog what it is doing, and the clock of its last turn
-pub record AreDoings (past : List Turn) (d : Doings) : Type 0 where
+-- of each cog what it is doing, the clock of its last turn, and by what it asked that
+pub record AreDoings (w : World) (counters : List (Option ℕ)) (past : List Turn) (d : Doings) : Type 0 where
   pub doings : d.doings ≡ map (λ (n : ℕ). doing past n) cogs
   pub last : d.last ≡ map (λ (n : ℕ). last_of past n) cogs
+  pub askings : d.askings ≡ map (λ (n : ℕ). last_asking w counters past n) cogs

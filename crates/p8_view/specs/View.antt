@@ -12,11 +12,10 @@ use Rattle.p8_access.specs.declared.order.Turn.{Turn}
 use Rattle.p8_access.specs.Worlds.{World}
 use Rattle.p8_access.specs.Hub.{value_at, cog_state, origin_of}
 use Rattle.p8_legend.specs.declared.legend.Legend.{Legend}
-use Rattle.p8_legend.specs.Legends.{place_text}
 use Rattle.p8_view.specs.declared.drives.Drives.{Drives}
 use Rattle.p8_view.specs.declared.turns.ViewOptions.{ViewOptions}
 use Rattle.p8_view.specs.Drives.{drives_of, pins_text}
-use Rattle.p8_view.specs.Words.{access_text, local_for}
+use Rattle.p8_view.specs.Words.{access_text, local_for, place_for}
 
 -- ---- time
 
@@ -93,7 +92,7 @@ when_text frequency turn = decimal turn.key.clock ++ codes " " ++ time_text freq
 -- what its cog does, which was started with this, the pins that change, and the place in the source
 abbrev pub what_text : Legend → (own : Origin) → Turn → (before after : Drives) → (counter : Option ℕ) → List ℕ
 what_text legend own turn before after counter =
-    access_text legend.names own (local_for legend own counter) turn.access turn.answer ++ pins_text before after ++ place_text legend.places counter ++ 10 ∷ []
+    access_text legend.names own (local_for legend own counter) turn.access turn.answer ++ pins_text before after ++ place_for legend own counter ++ 10 ∷ []
 
 -- the line of a turn after a past
 abbrev pub turn_line : Legend → World → List Turn → Turn → (counter : Option ℕ) → List ℕ

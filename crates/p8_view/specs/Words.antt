@@ -15,7 +15,7 @@ use Rattle.p8_access.specs.Proper.{value_of}
 use Rattle.p8_instr.specs.Numerals.{hex}
 use Rattle.p8_legend.specs.declared.legend.Legend.{Legend}
 use Rattle.p8_legend.specs.declared.ranges.Ranges.{Ranges}
-use Rattle.p8_legend.specs.Legends.{address_text, local_at}
+use Rattle.p8_legend.specs.Legends.{address_text, local_at, place_text}
 use Rattle.p8_report.specs.Text.{number_text, previous_text, width_text, digits_of, code_of, parameter_of, kind_text, reason_text}
 
 -- what a cog is started with: the kind of its code, where that begins, and PAR or the frame
@@ -26,6 +26,11 @@ start_text names origin = kind_text origin ++ codes " " ++ address_text names (c
 abbrev pub local_for : Legend → Origin → (counter : Option ℕ) → List ℕ
 local_for legend (Pasm code par) counter = []
 local_for legend (Spin entry pbase vbase frame size) counter = local_at legend.locals counter
+
+-- the place of what asks, at an address: of the bytecode that stands there, and for Propeller Assembly of the line of DAT that has the address
+abbrev pub place_for : Legend → Origin → (counter : Option ℕ) → List ℕ
+place_for legend (Pasm code par) counter = place_text legend.lines counter
+place_for legend (Spin entry pbase vbase frame size) counter = place_text legend.places counter
 
 -- an address by that name, and else by the names of the hub
 abbrev pub variable_text : Ranges → (local : List ℕ) → (address : ℕ) → List ℕ

@@ -1,7 +1,7 @@
 // What a cog does in a turn, in words.
 ghost use Rattle.std.specs.Prelude.{◌≡◌, ◌++◌, codes, OnOk};
 ghost use Rattle.p8_report.specs.Text.{code_of, number_text};
-ghost use Rattle.p8_view.specs.Words.{access_text, asked_text, local_for, move_text, moved_text, start_text, variable_text, wait_text};
+ghost use Rattle.p8_view.specs.Words.{access_text, asked_text, local_for, move_text, moved_text, place_for, start_text, variable_text, wait_text};
 ghost use Rattle.p8_legend.specs.Legends.{address_text};
 
 use crate::starts::{push_reason, push_start};
@@ -20,6 +20,21 @@ pub(crate) fn local_of<'a>(legend: &'a Legend, own: &Origin, counter: Option<u16
     match own {
         Origin::Pasm { .. } => &[],
         Origin::Spin { .. } => legend.local(counter),
+    }
+}
+
+/// Appends the place of what asks, at an address: of the bytecode of Spin, or of the line of DAT.
+pub(crate) fn push_place_of(
+    out: &mut Vec<u8>,
+    legend: &Legend,
+    own: &Origin,
+    counter: Option<u16>,
+) -> Result<(), NoMemory>
+    ensures { OnOk result (out.new.items ≡ out.old.items ++ place_for legend.now own.now counter) }
+{
+    match own {
+        Origin::Pasm { .. } => legend.push_line(out, counter),
+        Origin::Spin { .. } => legend.push_place(out, counter),
     }
 }
 

@@ -1,28 +1,30 @@
 // The end of a view.
-ghost use Rattle.std.specs.Prelude.{◌≡◌, ◌++◌, List, flat_map, length, reverse, OnOk};
+ghost use Rattle.std.specs.Prelude.{◌≡◌, ◌++◌, ℕ, List, Option, flat_map, length, reverse, OnOk};
 ghost use Rattle.p8_access.specs.declared.order.Turn.{Turn};
 ghost use Rattle.p8_access.specs.Worlds.{World};
 ghost use Rattle.p8_access.specs.Hub.{cogs};
 ghost use Rattle.p8_ledger.specs.Turns.{AreProper};
-ghost use Rattle.p8_view.specs.Following.{AreDoings};
+ghost use Rattle.p8_view.specs.Following.{AreCogs, AreDoings};
 ghost use Rattle.p8_view.specs.Ending.{cog_line, end_text, last_clock as clock_of_last, made_line, why_line, why_text};
 
-use crate::doings::Doings;
+use crate::doings::After;
 use crate::nexts::Nexts;
-use p8_access::{Next, Turn};
+use p8_access::{Origin, Turn};
 use p8_instr::push_text;
 use p8_ledger::Limits;
 use p8_legend::Legend;
+use p8_machine::Asked;
 use p8_report::push_numbered;
 use p8_words::NoMemory;
 
 /// Appends the lines of the eight cogs.
-fn push_cogs(out: &mut Vec<u8>, doings: &Doings, nexts: &Nexts<'_>) -> Result<(), NoMemory>
-    ensures { (past : List Turn) → AreDoings past doings.now →
-        OnOk result (out.new.items ≡ out.old.items ++ flat_map (cog_line nexts.now.legend.now.names nexts.now.clocks nexts.now.asked.now past) cogs) }
+fn push_cogs(out: &mut Vec<u8>, after: &After, nexts: &Nexts<'_>) -> Result<(), NoMemory>
+    ensures { (w : World) (counters : List (Option ℕ)) (past : List Turn) → w.clocks ≡ nexts.now.clocks →
+        AreDoings w counters past after.now.doings → AreCogs w past after.now.cogs →
+        OnOk result (out.new.items ≡ out.old.items ++ flat_map (cog_line nexts.now.legend.now w counters nexts.now.asked.now past) cogs) }
 {
     for cog in 0..8 {
-        doings.push_cog(out, nexts, cog)?;
+        after.push_cog(out, nexts, cog)?;
     }
     Ok(())
 }
@@ -65,20 +67,23 @@ fn push_why_line(out: &mut Vec<u8>, turns: u64, limits: Limits) -> Result<(), No
     push_text(out, b"\n")
 }
 
-/// Appends the end of a history of these turns, the oldest first: what each cog is doing and does next, how many turns were made, and why no
-/// more were.
+/// Appends the end of a history of these turns, the oldest first, with their counters: what each cog is doing and does next, how many turns were
+/// made, and why no more were. Cog 0 was started with `first`.
 pub(crate) fn push_end(
     out: &mut Vec<u8>,
+    first: Origin,
     turns: &[Turn],
+    counters: &[Option<u16>],
     limits: Limits,
     legend: &Legend,
-    asked: &[Next],
+    asked: &[Asked],
 ) -> Result<(), NoMemory>
     requires { AreProper turns.now }
     ensures { (w : World)
+        → w.first ≡ first
         → w.turns ≡ limits.turns
         → w.clocks ≡ limits.clocks
-        → OnOk result (out.new.items ≡ out.old.items ++ end_text legend.now.names w asked.now (reverse turns.now)) }
+        → OnOk result (out.new.items ≡ out.old.items ++ end_text legend.now w counters.now asked.now (reverse turns.now)) }
 {
     let count = turns.len() as u64;
     let nexts = Nexts {
@@ -86,7 +91,7 @@ pub(crate) fn push_end(
         legend,
         clocks: limits.clocks,
     };
-    push_cogs(out, &Doings::after(turns), &nexts)?;
+    push_cogs(out, &After::of(first, turns, counters), &nexts)?;
     push_made(out, count, last_clock(turns))?;
     push_why_line(out, count, limits)
 }

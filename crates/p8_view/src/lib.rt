@@ -16,6 +16,6 @@ mod views;
 mod words;
 
 pub use laws::missed_wait_ends;
-pub use place_laws::lines_show_the_places_of_their_statements;
+pub use place_laws::{lines_show_the_lines_of_dat, lines_show_the_places_of_their_statements};
 pub use turns::{ViewOptions, turn_lines};
 pub use views::view;

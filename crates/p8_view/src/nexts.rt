@@ -1,14 +1,15 @@
 // What a running cog does next, in words.
 ghost use Rattle.std.specs.Prelude.{◌≡◌, ◌<◌, ◌++◌, ◌^◌, OnOk};
 ghost use Rattle.std.specs.Fmt.{decimal};
-ghost use Rattle.p8_view.specs.Nexts.{asks_text, awaited_text, clocks_since, comes_again, is_missed, late_text, missed_text, next_of, next_text};
+ghost use Rattle.p8_view.specs.Nexts.{asked_of, asks_text, awaited_text, clocks_since, comes_again, is_missed, late_text, missed_text, next_text};
 
-use crate::accesses::push_asked;
+use crate::accesses::{local_of, push_asked, push_place_of};
 use crate::words::push_long;
 use itoa::Buffer;
-use p8_access::{Access, Next, Test};
+use p8_access::{Access, Next, Origin, Test};
 use p8_instr::push_text;
 use p8_legend::Legend;
+use p8_machine::Asked;
 use p8_report::push_numbered;
 use p8_words::NoMemory;
 
@@ -19,7 +20,7 @@ const ROUND: u128 = 0x1_0000_0000;
 #[derive(Clone, Copy)]
 pub(crate) struct Nexts<'a> {
     /// What each asks next, by its number.
-    pub asked: &'a [Next],
+    pub asked: &'a [Asked],
     pub legend: &'a Legend,
     /// The clock up to which turns come.
     pub clocks: u64,
@@ -27,35 +28,43 @@ pub(crate) struct Nexts<'a> {
 
 impl<'a> Nexts<'a> {
     /// What a cog asks next; nothing, where that isn't told.
-    pub fn next(&self, cog: u8) -> Next
-        ensures { result ≡ next_of self.now.asked.now cog }
+    pub fn asked(&self, cog: u8) -> Asked
+        ensures { result ≡ asked_of self.now.asked.now cog }
     {
         match self.asked.get(usize::from(cog)) {
-            Some(next) => *next,
-            None => Next::Quiet,
+            Some(asked) => *asked,
+            None => Asked {
+                next: Next::Quiet,
+                counter: None,
+            },
         }
     }
 
-    /// Appends what a running cog does next.
-    pub fn push_next(&self, out: &mut Vec<u8>, next: &Next) -> Result<(), NoMemory>
-        ensures { OnOk result (out.new.items ≡ out.old.items ++ next_text self.now.legend.now.names self.now.clocks next.now) }
+    /// Appends what a running cog does next, which was started with `own`, and the place of what asks that.
+    pub fn push_next(&self, out: &mut Vec<u8>, own: &Origin, asked: &Asked) -> Result<(), NoMemory>
+        ensures { OnOk result (out.new.items ≡ out.old.items ++ next_text self.now.legend.now self.now.clocks own.now asked.now.counter asked.now.next) }
     {
-        match next {
-            Next::At { clock, access } => push_asks(out, self.legend, *clock, access),
+        match &asked.next {
+            Next::At { clock, access } => {
+                let local = local_of(self.legend, own, asked.counter);
+                push_asks(out, self.legend, local, *clock, access)?;
+                push_place_of(out, self.legend, own, asked.counter)
+            }
             Next::Quiet => push_numbered(out, b", asks nothing before clock ", self.clocks),
             Next::More { bound } => push_numbered(out, b", asks nothing before clock ", *bound),
         }
     }
 }
 
-/// Appends the access that a cog asks from a clock on.
+/// Appends the access that a cog asks from a clock on, which names this in the frame of a method.
 fn push_asks(
     out: &mut Vec<u8>,
     legend: &Legend,
+    local: &[u8],
     clock: u64,
     access: &Access,
 ) -> Result<(), NoMemory>
-    ensures { OnOk result (out.new.items ≡ out.old.items ++ asks_text legend.now.names clock access.now) }
+    ensures { OnOk result (out.new.items ≡ out.old.items ++ asks_text legend.now local.now clock access.now) }
 {
     match *access {
         Access::Wait { test } => {
@@ -66,7 +75,7 @@ fn push_asks(
         _ => {
             push_numbered(out, b", does next at clock ", clock)?;
             push_text(out, b": ")?;
-            push_asked(out, legend, &[], access)
+            push_asked(out, legend, local, access)
         }
     }
 }

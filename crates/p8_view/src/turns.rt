@@ -10,7 +10,7 @@ ghost use Rattle.p8_view.specs.Drives.{drives_of};
 ghost use Rattle.p8_view.specs.View.{counter_of, is_asked, is_loaded as is_read_of_load, is_of, is_shown, lines_of};
 ghost use Rattle.p8_view.specs.View.{loading, rate, shown_line, turn_line, what_text, when_text};
 
-use crate::accesses::{local_of, push_access};
+use crate::accesses::{local_of, push_access, push_place_of};
 use crate::cogs::Cogs;
 use crate::drives::{Drives, are_same, push_pins};
 use crate::times::{push_time, rate_of};
@@ -114,7 +114,7 @@ impl<'a> Showing<'a> {
         let local = local_of(self.legend, own, counter);
         push_access(out, self.legend, own, local, &turn.access, turn.answer)?;
         push_pins(out, before, after)?;
-        self.legend.push_place(out, counter)?;
+        push_place_of(out, self.legend, own, counter)?;
         push_text(out, b"\n")
     }
 
@@ -173,7 +173,7 @@ impl<'a> Showing<'a> {
 }
 
 /// The counter of the turn of this number, where one is known.
-fn counter_of(counters: &[Option<u16>], number: usize) -> Option<u16>
+pub(crate) fn counter_of(counters: &[Option<u16>], number: usize) -> Option<u16>
     ensures { result ≡ counter_of counters.now number }
 {
     match counters.get(number) {

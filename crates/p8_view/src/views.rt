@@ -9,11 +9,11 @@ ghost use Rattle.p8_view.specs.Ending.{dumped_text, view_of};
 
 use crate::ending::push_end;
 use crate::turns::{ViewOptions, turn_lines};
-use p8_access::Next;
 use p8_hub::Hub;
 use p8_instr::{push_text, word_digits};
 use p8_ledger::Ended;
 use p8_legend::Legend;
+use p8_machine::Asked;
 use p8_report::push_dump;
 use p8_words::NoMemory;
 use std::alloc::Global;
@@ -43,7 +43,7 @@ fn push_dumped(out: &mut Vec<u8>, hub: &Hub, dump: Option<(u16, u16)>) -> Result
 /// A history that has ended, in the words of its program: a line for each turn that is shown, what each cog is doing at the end and does
 /// next, how many turns were made and why no more were, and the dump where one is asked for.
 ///
-/// `counters` has for each turn, the oldest first, the hub address of the bytecode that asks it; none is known of a turn behind its end.
+/// `counters` has for each turn, the oldest first, its counter, as a counted run tells it; none is known of a turn behind its end.
 /// `asked` has by the number of each cog what it asks next; a running cog behind its end is said to ask nothing.
 /// A dump is an address and how many bytes from there on, none of them after RAM; of what has no byte it is a line with the address. The only error is want of
 /// memory.
@@ -51,7 +51,7 @@ pub fn view(
     alloc: Global,
     ended: &Ended,
     counters: &[Option<u16>],
-    asked: &[Next],
+    asked: &[Asked],
     legend: &Legend,
     options: &ViewOptions,
     dump: Option<(u16, u16)>,
@@ -68,7 +68,8 @@ pub fn view(
     let turns = ended.history.turns.as_slice();
     let limits = ended.history.limits;
     let mut out = turn_lines(alloc, &ended.history, counters, legend, options)?;
-    push_end(&mut out, turns, limits, legend, asked)?;
+    let first = ended.history.boot.first;
+    push_end(&mut out, first, turns, counters, limits, legend, asked)?;
     push_dumped(&mut out, &ended.hub, dump)?;
     Ok(out)
 }

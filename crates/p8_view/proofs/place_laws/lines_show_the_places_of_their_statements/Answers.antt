@@ -5,15 +5,17 @@ use Rattle.p8_access.specs.Worlds.{World}
 use Rattle.p8_access.specs.declared.states.CogState.{CogState}
 use Rattle.p8_access.specs.declared.states.CogState.TheVariants.{Running}
 use Rattle.p8_access.specs.declared.kinds.Origin.{Origin}
-use Rattle.p8_access.specs.Hub.{cog_state}
+use Rattle.p8_access.specs.Hub.{cog_state, origin_of}
 use Rattle.p8_access.specs.Histories.{begun, since_begin}
 use Rattle.p8_access.specs.Lives.{Begun, Entered, SpinBegun}
 use Rattle.p8_bcog.specs.Counters.{IsCounter}
+use Rattle.p8_cog.specs.Counters.{IsCounterOf}
 use Rattle.p8_machine.specs.Counted.{IsCounterIn}
 use Rattle.p8_legend.specs.Legends.{place_text}
 use Rattle.p8_view.specs.View.{counter_of}
 use Rattle.p8_view.specs.Places.{line_with}
 use Rattle.p8_view.proofs.Counters.{counter-is}
+use Rattle.p8_view.proofs.Placed.{no-place, spin-place}
 use Rattle.p8_view.proofs.place_laws.lines_show_the_places_of_their_statements.Goals as goal
 
 -- the counter of a running cog is that of its life
@@ -21,7 +23,7 @@ of-life : (w : World) (past : List Turn) (n : ℕ) (state : CogState) (origin : 
     → IsCounter (SpinBegun entered) (since_begin past n) counter
 of-life w past n state origin entered counter is running begins =
     let h : IsCounterIn w past n (Running origin) counter = subst (λ (s : CogState). IsCounterIn w past n s counter) running is in
-    subst (λ (l : Begun). IsCounter l (since_begin past n) counter) (same_Some h.0 (SpinBegun entered) (sym h.1 ∙ begins)) h.2
+    subst (λ (l : Begun). IsCounterOf w.memory l (since_begin past n) counter) (same_Some h.0 (SpinBegun entered) (sym h.1 ∙ begins)) h.2
 
 pub returns : goal.returns
 returns c = λ sources files long proper some distinct mentioned no_ring image is legend of w memory first history legal counters are later turn past is_history.
@@ -40,7 +42,9 @@ returns c = λ sources files long proper some distinct mentioned no_ring image i
             names = told.names;
             text = told.tells.text;
             shown = told.tells.shown;
-            line = ap (λ (x : Option ℕ). line_with legend w past turn counter (place_text legend.places x)) known ∙ ap (line_with legend w past turn counter) told.tells.told;
+            line =
+                ap (line_with legend w past turn counter)
+                (spin-place legend counter w past turn.key.cog origin running entered begins ∙ ap (place_text legend.places) known ∙ told.tells.told);
           };
-      none = λ unknown. ap (λ (x : Option ℕ). line_with legend w past turn counter (place_text legend.places x)) unknown;
+      none = λ unknown. ap (line_with legend w past turn counter) (no-place legend (origin_of (cog_state w past turn.key.cog)) counter unknown);
     }
