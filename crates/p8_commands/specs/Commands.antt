@@ -31,18 +31,20 @@ pub data Dump : Type 0 where
   RangeOf : ℕ × ℕ → Dump
   Named : (name : List ℕ) → Dump
 
--- A command: to write the image of a source, its listing or its map; to explain why a source is refused, or a refusal by its number; to hint at what
--- is most likely a slip in a source; to run hub memory, or an image or a source; to save the history of a run, or to check one; to read the bytes
--- that stand on a pin of a run, with so many clocks a bit, or to write a pin script that sends the bytes of a file from a clock on; to write the wave
--- of a run, of all that it has or of what changes, or of its pins and locks alone; to draw some pins of a run, by their mask, from one clock on and
--- before another; to show a run for reading, all turns or those of one cog or those that change pins, from one clock on and before another, or none
--- of them, and then what holds in the end, with a dump; to show a run in a browser, from one clock on and before another; to write an image as the
--- other kind of file; to run the made program of a seed; or to tell a command or all of them. A run is made by one thread alone, or by a crew of
--- eight. Where it says whether it is raw, what is run is hub memory where it is, and else an image or a source. Where it says whether it is short, a
--- source has its short code where it is.
+-- A command: to write the image of a source, its listing, its map, or the code of a source or an image; to explain why a source is refused, or a
+-- refusal by its number; to hint at what is most likely a slip in a source; to run hub memory, or an image or a source; to save the history of a run,
+-- or to check one; to read the bytes that stand on a pin of a run, with so many clocks a bit, or to write a pin script that sends the bytes of a file
+-- from a clock on; to write the wave of a run, of all that it has or of what changes, or of its pins and locks alone; to draw some pins of a run, by
+-- their mask, from one clock on and before another; to show a run for reading, all turns or those of one cog or those that change pins, from one clock
+-- on and before another, or none of them, and then what holds in the end, with a dump; to show a run in a browser, from one clock on and before
+-- another; to write an image as the other kind of file; to run the made program of a seed; or to tell a command or all of them. A run is made by one
+-- thread alone, or by a crew of eight. Where it says whether it is raw, what is run is hub memory where it is, and else an image or a source. Where it
+-- says whether it is short, a source has its short code where it is.
 pub data Command : Type 0 where
   BuildSource : (short : Bool) (file : List ℕ) → Command
   ListSource : (short : Bool) (file : List ℕ) → Command
+  CodeSource : (short : Bool) (file : List ℕ) → Command
+  CodeImage : ImageKind → (file : List ℕ) → Command
   MapSource : (file : List ℕ) → Command
   ExplainFile : (file : List ℕ) → Command
   ExplainNumber : (number : ℕ) → Command
@@ -160,6 +162,15 @@ run_named alone short run kind = Some (RunProgram alone short run)
 abbrev pub program_of : (alone short : Bool) → Running → Option Command
 program_of alone short run = run_named alone short run (kind_named run.file)
 
+-- the code of a source, or of an image, which has no short code
+abbrev pub code_named : (short : Bool) → Text → Option ImageKind → Option Command
+code_named short file None = Some (CodeSource short file)
+code_named false file (Some kind) = Some (CodeImage kind file)
+code_named true file (Some kind) = None
+
+abbrev pub code_of : (short : Bool) → Text → Option Command
+code_of short file = code_named short file (kind_named file)
+
 -- how many columns a picture has at most, by the value of `--width`
 abbrev pub columns_by : Option Text → Option ℕ
 columns_by None = Some usual_columns
@@ -229,6 +240,7 @@ convert_of file = option_map (λ kind. Convert kind file) (kind_named file)
 abbrev pub meaning_of : Subcommand → (Text → Option Text) → Option Command
 meaning_of named.Build value = option_map (BuildSource (has_flag (codes "short") value)) (value (codes "FILE"))
 meaning_of named.List value = option_map (ListSource (has_flag (codes "short") value)) (value (codes "FILE"))
+meaning_of named.Code value = option_and_then (code_of (has_flag (codes "short") value)) (value (codes "FILE"))
 meaning_of named.Map value = option_map MapSource (value (codes "FILE"))
 meaning_of named.Explain value = option_and_then explain_of (value (codes "WORD"))
 meaning_of named.Hint value = option_map HintSource (value (codes "FILE"))

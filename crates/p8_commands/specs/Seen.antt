@@ -10,9 +10,9 @@ use Rattle.p8_commands.specs.declared.command.Command.TheVariants as read
 use Rattle.p8_commands.specs.declared.command.Run.{Run as RunRead}
 use Rattle.p8_commands.specs.declared.command.Dump.{Dump as DumpRead}
 use Rattle.p8_commands.specs.declared.command.Dump.TheVariants as dumped
-use Rattle.p8_commands.specs.Commands.{Command, Dump, RangeOf, Named, Running, BuildSource, ListSource, MapSource, ExplainFile, ExplainNumber}
-use Rattle.p8_commands.specs.Commands.{HintSource, RunMemory, RunProgram, Save, Check, Serial, TypeFile, Wave, Plot, ViewRun, PageRun, Convert, Make}
-use Rattle.p8_commands.specs.Commands.{Help}
+use Rattle.p8_commands.specs.Commands.{Command, Dump, RangeOf, Named, Running, BuildSource, ListSource, CodeSource, CodeImage, MapSource}
+use Rattle.p8_commands.specs.Commands.{ExplainFile, ExplainNumber, HintSource, RunMemory, RunProgram, Save, Check, Serial, TypeFile, Wave, Plot}
+use Rattle.p8_commands.specs.Commands.{ViewRun, PageRun, Convert, Make, Help}
 use Rattle.p8_commands.specs.Table.{Argument, Entry}
 use Rattle.p8_commands.specs.Naming.{name_of}
 use Rattle.p8_commands.specs.Numbers.{most_clocks, most_shown_clocks, most_turns, most_saved_turns, most_page_turns, last_cog, last_pin}
@@ -43,6 +43,8 @@ dump_if_any (Some dump) = Some (dump_read dump)
 abbrev pub command_read : CommandRead → Command
 command_read (read.Build short file) = BuildSource short file.now
 command_read (read.List short file) = ListSource short file.now
+command_read (read.CodeSource short file) = CodeSource short file.now
+command_read (read.CodeImage kind file) = CodeImage kind file.now
 command_read (read.Map file) = MapSource file.now
 command_read (read.ExplainFile file) = ExplainFile file.now
 command_read (read.ExplainNumber number) = ExplainNumber number

@@ -153,6 +153,12 @@ entry_of named.List = record {
   about = codes "Writes the listing of a source: its objects, their methods, and the code of each.";
   examples = codes "prop list blink.spin" ∷ codes "prop list blink.spin --short" ∷ [];
 }
+entry_of named.Code = record {
+  word = codes "code";
+  arguments = operand (codes "FILE") (codes "an image, where its name ends in .binary or .eeprom; or else the top file of a project") ∷ short ∷ [];
+  about = codes "Writes the code of a project or of an image, for reading.";
+  examples = codes "prop code blink.spin" ∷ codes "prop code blink.binary" ∷ [];
+}
 entry_of named.Map = record {
   word = codes "map";
   arguments = source_file ∷ [];
@@ -250,8 +256,8 @@ entry_of named.Help = record {
 -- all commands, in the order in which they are told
 abbrev pub subcommands : List Subcommand
 subcommands =
-    named.Build ∷ named.List ∷ named.Map ∷ named.Explain ∷ named.Hint ∷ named.Raw ∷ named.Run ∷ named.Save ∷ named.Check ∷ named.Serial ∷
-    named.TypeFile ∷ named.Wave
+    named.Build ∷ named.List ∷ named.Code ∷ named.Map ∷ named.Explain ∷ named.Hint ∷ named.Raw ∷ named.Run ∷ named.Save ∷ named.Check ∷
+    named.Serial ∷ named.TypeFile ∷ named.Wave
     ∷ named.Plot ∷ named.View ∷ named.Page ∷ named.Convert ∷ named.Make ∷ named.Help ∷ []
 
 -- the command that a word names

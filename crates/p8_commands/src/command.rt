@@ -42,6 +42,16 @@ pub enum Command<'a> {
         short: bool,
         file: &'a str,
     },
+    /// Writes the code of a project for reading, with its short code where it is short.
+    CodeSource {
+        short: bool,
+        file: &'a str,
+    },
+    /// Writes the code of an image of this kind for reading.
+    CodeImage {
+        kind: ImageKind,
+        file: &'a str,
+    },
     /// Writes the map of a source.
     Map {
         file: &'a str,
@@ -181,6 +191,7 @@ impl Command<'_> {
         match self {
             Command::ExplainFile { .. } => true,
             Command::Build { .. } | Command::List { .. } => false,
+            Command::CodeSource { .. } | Command::CodeImage { .. } => false,
             Command::Map { .. } | Command::ExplainNumber { .. } => false,
             Command::Hint { .. } => false,
             Command::Raw { .. } | Command::Run { .. } => false,
@@ -199,6 +210,7 @@ impl Command<'_> {
     {
         match self {
             Command::Build { .. } | Command::List { .. } => true,
+            Command::CodeSource { .. } | Command::CodeImage { .. } => true,
             Command::Map { .. } => true,
             Command::ExplainFile { .. } | Command::ExplainNumber { .. } => true,
             Command::Hint { .. } => true,

@@ -46,6 +46,8 @@ pub enum Subcommand {
     Build,
     /// Writes the listing of a source.
     List,
+    /// Writes the code of a project or of an image for reading.
+    Code,
     /// Writes the map of a source.
     Map,
     /// Tells why a source is refused, or tells a refusal.
@@ -311,6 +313,13 @@ const MESSAGE_FILE: Argument = Argument {
     about: "the bytes to send, at most 5000",
 };
 
+const CODE_FILE: Argument = Argument {
+    kind: ArgumentKind::Operand,
+    name: "FILE",
+    value: "",
+    about: "an image, where its name ends in .binary or .eeprom; or else the top file of a project",
+};
+
 const IMAGE_FILE: Argument = Argument {
     kind: ArgumentKind::Operand,
     name: "FILE",
@@ -340,6 +349,7 @@ impl Subcommand {
         &[
             Subcommand::Build,
             Subcommand::List,
+            Subcommand::Code,
             Subcommand::Map,
             Subcommand::Explain,
             Subcommand::Hint,
@@ -378,6 +388,12 @@ impl Subcommand {
                 arguments: &[SOURCE_FILE, SHORT],
                 about: "Writes the listing of a source: its objects, their methods, and the code of each.",
                 examples: &["prop list blink.spin", "prop list blink.spin --short"],
+            },
+            Subcommand::Code => Row {
+                word: "code",
+                arguments: &[CODE_FILE, SHORT],
+                about: "Writes the code of a project or of an image, for reading.",
+                examples: &["prop code blink.spin", "prop code blink.binary"],
             },
             Subcommand::Map => Row {
                 word: "map",

@@ -5,7 +5,7 @@ ghost use Rattle.clap.specs.Matches.{first_value, found_of};
 ghost use Rattle.p8_commands.specs.Commands.{command_of, said_to, meaning_of, run_of, traced_of, saved_of, number_by};
 ghost use Rattle.p8_commands.specs.Commands.{dump_by, is_given as is_given_by, has_flag as has_flag_by, check_of, read_of, shown_of, paged_of};
 ghost use Rattle.p8_commands.specs.Commands.{pin_of, bits_of, serial_of, type_of, program_of, columns_by, plot_of, cog_by, dumped_of, shown_by};
-ghost use Rattle.p8_commands.specs.Commands.{view_of, page_of, explain_of, seed_of, topic_of, convert_of};
+ghost use Rattle.p8_commands.specs.Commands.{view_of, page_of, code_of, explain_of, seed_of, topic_of, convert_of};
 ghost use Rattle.p8_commands.specs.Naming.{name_of};
 ghost use Rattle.p8_commands.specs.Numbers.{most_clocks, most_page_turns, most_saved_turns, most_seed, most_shown_clocks, most_turns, last_cog};
 ghost use Rattle.p8_commands.specs.Numbers.{last_pin, least_bits, most_bits, least_columns, most_columns};
@@ -257,6 +257,18 @@ fn program_in(alone: bool, short: bool, run: Run<'_>) -> Option<Command<'_>>
     Some(Command::Run { alone, short, run })
 }
 
+/// The command to write the code of a file, or None where an image is to have short code.
+fn code_in(short: bool, file: &str) -> Option<Command<'_>>
+    ensures seen { command_if_any result ≡ code_of short file.now }
+    ensures within { IfSome result HasLimits }
+{
+    match ImageKind::named(file) {
+        None => Some(Command::CodeSource { short, file }),
+        Some(_) if short => None,
+        Some(kind) => Some(Command::CodeImage { kind, file }),
+    }
+}
+
 /// How many columns a picture has at most, by the value of `--width`, or None for another spelling.
 fn columns_in(value: Option<&str>) -> Option<u16>
     ensures columns { result ≡ columns_by (name_of value.entry) }
@@ -414,6 +426,7 @@ fn meaning_in<'a>(command: Subcommand, matches: &ArgMatches<'a>) -> Option<Comma
             short: has_flag(matches, "short"),
             file: matches.get_str("FILE")?,
         }),
+        Subcommand::Code => code_in(has_flag(matches, "short"), matches.get_str("FILE")?),
         Subcommand::Map => Some(Command::Map {
             file: matches.get_str("FILE")?,
         }),
