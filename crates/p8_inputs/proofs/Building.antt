@@ -30,7 +30,7 @@ use Rattle.p8_opt.specs.Shorts.{IsShortImageBuilt, IsShortBuiltTo}
 use Rattle.p8_inputs.specs.Gathered.{StopsAtBuilding, IsImageBuiltBy, AreBuiltBy, IsListingOf}
 use Rattle.p8_inputs.specs.Runs.{HasProperTrees}
 use Rattle.p8_page.specs.Page.{Block}
-use Rattle.p8_inputs.specs.Sources.{IsImageFrom, IsListingFrom, IsMapFrom, IsHintsFrom, IsProjectLegend, AreBlocksOf, AreProjectBlocks, when_built}
+use Rattle.p8_inputs.specs.Sources.{IsImageFrom, IsListingFrom, IsCodeBy, IsCodeFrom, IsMapFrom, IsHintsFrom, IsProjectLegend, AreBlocksOf, AreProjectBlocks, when_built}
 use Rattle.p8_inputs.specs.Asks.{StopsAtProgram}
 
 -- what is built is built by the choice
@@ -53,6 +53,9 @@ module _ (files : Files) (short : Bool) (top : List ℕ) (sources : List NamedSo
 
   pub listing-from : (text : List ℕ) → IsListingOf short sources text → IsListingFrom files short top text
   listing-from text is = (sources, is.0, is.1, record { gathered = gathered; built = is.2 }, is.3)
+
+  pub code-from : (texts : List (List ℕ)) → AreSources files sources texts → (text : List ℕ) → IsCodeBy short texts sources text → IsCodeFrom files short top text
+  code-from texts are text is = (sources, gathered, texts, are, is)
 
   pub map-from : (texts : List (List ℕ)) → AreSources files sources texts → (text : List ℕ) → IsMapOf texts sources text → IsMapFrom files top text
   map-from texts are text is = (sources, gathered, texts, are, is)

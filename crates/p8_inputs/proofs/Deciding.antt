@@ -27,12 +27,13 @@ use Rattle.p8_inputs.specs.declared.program.Format.TheVariants.{Memory, Image, E
 use Rattle.p8_inputs.specs.declared.stop.Stop.{Stop}
 use Rattle.p8_inputs.specs.declared.stop.Stop.TheVariants.{Unread, Missing, NoMemory, Refused, BadProgram, BadScript, Unnamed}
 use Rattle.p8_inputs.specs.Programs.{fault_of}
-use Rattle.p8_inputs.specs.Sources.{HasOneOutcome, IsBuiltFrom, IsListingFrom, IsMapFrom, IsHintsFrom}
+use Rattle.p8_inputs.specs.Sources.{HasOneOutcome, IsBuiltFrom, IsListingFrom, IsCodeFrom, IsMapFrom, IsHintsFrom}
 use Rattle.p8_inputs.specs.Inputs.{IsProgram, IsScriptFor, IsProgramUnread, HasFault}
 use Rattle.p8_page.specs.Page.{Block}
 use Rattle.p8_inputs.specs.Pages.{AreBlocksFrom}
-use Rattle.p8_inputs.specs.Asks.{most_sent, Ask, program, viewing, paging, listing, mapping, hinting, script, history, message, Given, bytes, viewed, paged, lines, Gives, Give, StopsAtFile, StopsAtMessage, StopsAtProgram, StopsAtScript, IsUnnamed, StopsAt, StopsFirst, Stops, IsOfFiles, HasOneReading}
+use Rattle.p8_inputs.specs.Asks.{most_sent, Ask, program, viewing, paging, listing, coding, mapping, hinting, script, history, message, Given, bytes, viewed, paged, lines, Gives, Give, StopsAtFile, StopsAtMessage, StopsAtProgram, StopsAtScript, IsUnnamed, StopsAt, StopsFirst, Stops, IsOfFiles, HasOneReading}
 use Rattle.p8_inputs.specs.Legends.{IsLegendFrom, HasName, range_in}
+use Rattle.p8_inputs.proofs.Coding.{code-built}
 use Rattle.p8_inputs.proofs.Mapping.{map-built, hints-built}
 use Rattle.p8_inputs.proofs.Naming.{same-nothing}
 use Rattle.p8_inputs.proofs.Stopping.{first-or_memory}
@@ -195,6 +196,12 @@ module _ (files : List ℕ → Option (List ℕ)) where
         let same = one.one_image short file p.0 q.0 p.1 q.1 p.2 q.2 p.3 q.3 in
         p.4 ∙ ap₂ (λ (sources : List NamedSource) (objects : List ObjectPart). listing_of (map (λ source. source.name) sources) objects) same.0 same.2 ∙ sym q.4
 
+    -- what has a code has an image
+    image-of_code : (short : Bool) (file text : List ℕ) → IsCodeFrom (Some files) short file text → (image : List ℕ) × IsProgram (Some files) (Source short) file image
+    image-of_code short file text is =
+        let built = code-built short is.2 is.0 text is.4 in
+        (image_of built.0 built.1, (is.0, built.0, built.1, record { gathered = is.1; built = built.2 }, refl))
+
     -- what has a map has an image
     image-of_map : (file text : List ℕ) → IsMapFrom (Some files) file text → (image : List ℕ) × IsProgram (Some files) (Source false) file image
     image-of_map file text is =
@@ -324,6 +331,7 @@ module _ (files : List ℕ → Option (List ℕ)) where
         let blocks : b ≡ d = blocks-of_one format file b d p.2 q.2 in
         λ i. paged (text i) (legend i) (blocks i)
     gives-one (listing short file) (bytes xs) (bytes ys) p q = ap bytes (listing-one short file xs ys p q)
+    gives-one (coding short file) (bytes xs) (bytes ys) p q = ap bytes (one.one_code short file xs ys p q)
     gives-one (mapping file) (bytes xs) (bytes ys) p q = ap bytes (one.one_map file xs ys p q)
     gives-one (hinting file) (bytes xs) (bytes ys) p q = ap bytes (one.one_hints file xs ys p q)
     gives-one (script file) (lines xs) (lines ys) p q = ap lines (script-one file xs ys p q)
@@ -337,6 +345,8 @@ module _ (files : List ℕ → Option (List ℕ)) where
     gives-one (paging format file) a b p q = absurd p
     gives-one (listing short file) (bytes xs) b p q = absurd q
     gives-one (listing short file) a b p q = absurd p
+    gives-one (coding short file) (bytes xs) b p q = absurd q
+    gives-one (coding short file) a b p q = absurd p
     gives-one (mapping file) (bytes xs) b p q = absurd q
     gives-one (hinting file) (bytes xs) b p q = absurd q
     gives-one (mapping file) a b p q = absurd p
@@ -353,6 +363,7 @@ module _ (files : List ℕ → Option (List ℕ)) where
     stop-one before now (viewing format file name) a b s t p q = viewing-stop-one before now format file name a b s t p q
     stop-one before now (paging format file) a b s t p q = program-stop-one before now format file a b s t p q
     stop-one before now (listing short file) a b s t p q = program-stop-one before now (Source short) file a b s t p q
+    stop-one before now (coding short file) a b s t p q = program-stop-one before now (Source short) file a b s t p q
     stop-one before now (mapping file) a b s t p q = program-stop-one before now (Source false) file a b s t p q
     stop-one before now (hinting file) a b s t p q = program-stop-one before now (Source false) file a b s t p q
     stop-one before now (script file) a b s t p q = script-stop-one before now file a b s t p q
@@ -362,6 +373,9 @@ module _ (files : List ℕ → Option (List ℕ)) where
     never-both : (before now : ℕ) (ask : Ask) (given : Given) (stop : Stop) → IsOfFiles stop → Gives (Some files) ask given → StopsAt (Some files) before now ask stop → ⊥
     never-both before now (program format file) (bytes xs) stop s is stops = program-never_both before now format file xs stop s is stops
     never-both before now (listing short file) (bytes xs) stop s is stops = program-never_both before now (Source short) file (image_of is.1 is.2) stop s (is.0, is.1, is.2, is.3, refl) stops
+    never-both before now (coding short file) (bytes xs) stop s is stops =
+        let built = image-of_code short file xs is in
+        program-never_both before now (Source short) file built.0 stop s built.1 stops
     never-both before now (mapping file) (bytes xs) stop s is stops =
         let built = image-of_map file xs is in
         program-never_both before now (Source false) file built.0 stop s built.1 stops
@@ -377,6 +391,7 @@ module _ (files : List ℕ → Option (List ℕ)) where
     never-both before now (viewing format file name) given stop s is stops = is
     never-both before now (paging format file) given stop s is stops = is
     never-both before now (listing short file) given stop s is stops = is
+    never-both before now (coding short file) given stop s is stops = is
     never-both before now (mapping file) given stop s is stops = is
     never-both before now (hinting file) given stop s is stops = is
     never-both before now (script file) given stop s is stops = is
@@ -450,6 +465,7 @@ ask-unread-rose files before now (viewing format file other) name (inl unread) =
 ask-unread-rose files before now (viewing format file other) name (inr none) = absurd none
 ask-unread-rose files before now (paging format file) name unread = program-unread-rose files before now format file name unread
 ask-unread-rose files before now (listing short file) name unread = program-unread-rose files before now (Source short) file name unread
+ask-unread-rose files before now (coding short file) name unread = program-unread-rose files before now (Source short) file name unread
 ask-unread-rose files before now (mapping file) name unread = program-unread-rose files before now (Source false) file name unread
 ask-unread-rose files before now (hinting file) name unread = program-unread-rose files before now (Source false) file name unread
 ask-unread-rose files before now (script file) name unread = unread.1

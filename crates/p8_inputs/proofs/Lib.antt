@@ -3,6 +3,7 @@ pub mod Logging
 pub mod Deciding
 pub mod Gathering
 mod Building
+mod Coding
 mod Filing
 pub mod Stopping
 mod Outcomes

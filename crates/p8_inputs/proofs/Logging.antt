@@ -8,7 +8,7 @@ use Rattle.p8_objects.specs.Orders.{no_more}
 use Rattle.p8_objects.proofs.Logs.{nothing-read}
 use Rattle.p8_inputs.specs.declared.program.Format.{Format}
 use Rattle.p8_inputs.specs.declared.program.Format.TheVariants.{Memory, Image, Eeprom, Source}
-use Rattle.p8_inputs.specs.Asks.{Ask, program, viewing, paging, listing, mapping, hinting, script, history, message, Given, Give}
+use Rattle.p8_inputs.specs.Asks.{Ask, program, viewing, paging, listing, coding, mapping, hinting, script, history, message, Given, Give}
 use Rattle.p8_inputs.specs.Orders.{IsAllRead, MayBeRead, IsReadSoFar, AreAllRead, AreReadSoFar}
 use Rattle.p8_inputs.specs.Programs.{format_of}
 use Rattle.p8_inputs.specs.Steps.{IsOfBytes}
@@ -55,6 +55,7 @@ none-read_of files (paging Image file) log = unread file log
 none-read_of files (paging Eeprom file) log = unread file log
 none-read_of files (paging (Source short) file) log = ([], nothing-read log, no_more)
 none-read_of files (listing short file) log = ([], nothing-read log, no_more)
+none-read_of files (coding short file) log = ([], nothing-read log, no_more)
 none-read_of files (mapping file) log = ([], nothing-read log, no_more)
 none-read_of files (hinting file) log = ([], nothing-read log, no_more)
 none-read_of files (script file) log = unread file log

@@ -42,7 +42,7 @@ names-same (t ∷ ts) (f ∷ fs) (c ∷ cs) (x ∷ xs) (y ∷ ys) a b d each =
     ap (λ o. o ∷ names_of ts fs cs xs) (each 0 t f c x y refl refl refl refl) ∙ ap (λ os. names_by t f c y ∷ os) (names-same ts fs cs xs ys (omega arith) (omega arith) (omega arith) (λ i. each (suc i)))
 
 -- the names of all files, however they are compiled
-one-names : (texts : List (List ℕ)) (files : List NamedSource) (children : List Children) (xs ys : List CompiledFile) → length children ≡ length files → AreCompiled files children xs → AreCompiled files children ys
+pub one-names : (texts : List (List ℕ)) (files : List NamedSource) (children : List Children) (xs ys : List CompiledFile) → length children ≡ length files → AreCompiled files children xs → AreCompiled files children ys
     → names_of texts files children xs ≡ names_of texts files children ys
 one-names texts files children xs ys beside a b =
     names-same texts files children xs ys beside a.count b.count (λ i t f c x y at_f at_c at_x at_y.

@@ -16,6 +16,7 @@ same-legend a b s =
     λ i. record {
       names = same-ranges a.names b.names (ap (λ (n : Named). n.0) s.names) (ap (λ (n : Named). n.1) s.names) i;
       places = same-ranges a.places b.places (ap (λ (n : Named). n.0) s.places) (ap (λ (n : Named). n.1) s.places) i;
+      lines = same-ranges a.lines b.lines (ap (λ (n : Named). n.0) s.lines) (ap (λ (n : Named). n.1) s.lines) i;
       locals = same-ranges a.locals b.locals (ap (λ (n : Named). n.0) s.locals) (ap (λ (n : Named). n.1) s.locals) i;
     }
 
@@ -24,5 +25,6 @@ same-nothing a b p q =
     λ i. record {
       names = same-ranges a.names b.names (p.0.0 ∙ sym q.0.0) (p.0.1 ∙ sym q.0.1) i;
       places = same-ranges a.places b.places (p.1.0 ∙ sym q.1.0) (p.1.1 ∙ sym q.1.1) i;
-      locals = same-ranges a.locals b.locals (p.2.0 ∙ sym q.2.0) (p.2.1 ∙ sym q.2.1) i;
+      lines = same-ranges a.lines b.lines (p.2.0 ∙ sym q.2.0) (p.2.1 ∙ sym q.2.1) i;
+      locals = same-ranges a.locals b.locals (p.3.0 ∙ sym q.3.0) (p.3.1 ∙ sym q.3.1) i;
     }

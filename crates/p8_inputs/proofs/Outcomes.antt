@@ -24,7 +24,8 @@ use Rattle.p8_hint.specs.Projects.{IsHintsOf}
 use Rattle.p8_opt.specs.Shorts.{IsShortBuilt}
 use Rattle.p8_legend.specs.Projects.{AreSame, IsLegendOf}
 use Rattle.p8_page.specs.Page.{Block, map_block}
-use Rattle.p8_inputs.specs.Sources.{IsBuiltBy, IsBuiltFrom, IsMapFrom, IsHintsFrom, IsProjectLegend, file_blocks, AreBlocksOf, AreProjectBlocks, IsRefusedFrom, while_gathered, when_built, HasOneOutcome}
+use Rattle.p8_inputs.specs.Sources.{IsBuiltBy, IsBuiltFrom, IsCodeBy, IsCodeFrom, IsMapFrom, IsHintsFrom, IsProjectLegend, file_blocks, AreBlocksOf, AreProjectBlocks, IsRefusedFrom, while_gathered, when_built, HasOneOutcome}
+use Rattle.p8_inputs.proofs.Coding.{code-one}
 use Rattle.p8_inputs.proofs.Gathering.{distinct, no_ring}
 use Rattle.p8_inputs.proofs.Mapping.{map-one}
 use Rattle.p8_inputs.proofs.Naming.{same-legend}
@@ -124,6 +125,14 @@ module _ (one : OneGathered) (same : OneBuilt) (refusal : OneRefused) (either : 
       let is = built-one short others (distinct others whole.distinct) (no_ring others whole.no_ring) clock other objects parts (subst (λ s. IsBuiltBy short s clock objects) e g.built) h.built in
       (e, is.0, is.1)
 
+  one-code : (short : Bool) (top a b : List ℕ) → IsCodeFrom (Some files) short top a → IsCodeFrom (Some files) short top b → a ≡ b
+  one-code short top a b p q =
+      let e : p.0 ≡ q.0 = one-project top p.0 q.0 p.1 q.1 in
+      let whole = whole_project (gathers q.1 0 0) in
+      let texts : p.2 ≡ q.2 = one-sources files q.0 p.2 q.2 (subst (λ (s : List NamedSource). AreSources (Some files) s p.2) e p.3) q.3 in
+      code-one short q.2 q.0 (views q.0 (distinct q.0 whole.distinct) (no_ring q.0 whole.no_ring)) a b
+      (subst (λ (ts : List (List ℕ)). IsCodeBy short ts q.0 a) texts (subst (λ (s : List NamedSource). IsCodeBy short p.2 s a) e p.4)) q.4
+
   one-map : (top a b : List ℕ) → IsMapFrom (Some files) top a → IsMapFrom (Some files) top b → a ≡ b
   one-map top a b p q =
       let e : p.0 ≡ q.0 = one-project top p.0 q.0 p.1 q.1 in
@@ -188,6 +197,7 @@ module _ (one : OneGathered) (same : OneBuilt) (refusal : OneRefused) (either : 
   pub one-outcome : HasOneOutcome files
   one-outcome = record {
     one_image = one-image;
+    one_code = one-code;
     one_map = one-map;
     one_blocks = one-blocks;
     one_hints = one-hints;

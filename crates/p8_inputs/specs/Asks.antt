@@ -14,24 +14,25 @@ use Rattle.p8_inputs.specs.Inputs.{IsProgram, IsScriptFor, IsProgramMissing, IsP
 use Rattle.p8_inputs.specs.Legends.{IsLegendFrom, HasName, range_in}
 use Rattle.p8_inputs.specs.Pages.{AreBlocksFrom}
 use Rattle.p8_page.specs.Page.{Block}
-use Rattle.p8_inputs.specs.Sources.{IsListingFrom, IsMapFrom, IsHintsFrom}
+use Rattle.p8_inputs.specs.Sources.{IsListingFrom, IsCodeFrom, IsMapFrom, IsHintsFrom}
 
 -- an ask: for the program of a file, by what the file is taken for; for that with its legend, in which this name stands, where one is asked for; for
--- that with its legend and with what a page shows of its project; for the listing of a source, with its short code where it is short; for the map of
--- a source; for the hints at what is most likely a slip in a source; for the pin script of a file; for the bytes of a history file, whatever they
--- are; or for the bytes of a message, which is to be sent and has at most 5,000
+-- that with its legend and with what a page shows of its project; for the listing of a source, or its code for reading, with its short code where it
+-- is short; for the map of a source; for the hints at what is most likely a slip in a source; for the pin script of a file; for the bytes of a history
+-- file, whatever they are; or for the bytes of a message, which is to be sent and has at most 5,000
 pub data Ask : Type 0 where
   program : Format → (file : List ℕ) → Ask
   viewing : Format → (file : List ℕ) → (name : Option (List ℕ)) → Ask
   paging : Format → (file : List ℕ) → Ask
   listing : (short : Bool) (file : List ℕ) → Ask
+  coding : (short : Bool) (file : List ℕ) → Ask
   mapping : (file : List ℕ) → Ask
   hinting : (file : List ℕ) → Ask
   script : (file : List ℕ) → Ask
   history : (file : List ℕ) → Ask
   message : (file : List ℕ) → Ask
 
--- what an ask is given: the bytes of a program, of a listing, of a map, of hints, of a history file or of a message, the bytes of a program with its
+-- what an ask is given: the bytes of a program, of a listing, of a code, of a map, of hints, of a history file or of a message, the bytes of a program with its
 -- legend, and with the blocks of its project, or the lines of a pin script
 pub data Given : Type 0 where
   bytes : List ℕ → Given
@@ -73,6 +74,7 @@ Gives files (viewing format file name) (viewed xs legend) = IsProgram files form
 Gives files (paging format file) (paged xs legend blocks) = IsProgram files format file xs × IsLegendFrom files format file legend ×
     AreBlocksFrom files format file blocks
 Gives files (listing short file) (bytes xs) = IsListingFrom files short file xs
+Gives files (coding short file) (bytes xs) = IsCodeFrom files short file xs
 Gives files (mapping file) (bytes xs) = IsMapFrom files file xs
 Gives files (hinting file) (bytes xs) = IsHintsFrom files file xs
 Gives files (script file) (lines xs) = IsScriptFor files (Some file) xs
@@ -88,6 +90,7 @@ Gives files (paging format file) (lines xs) = ⊥
 Gives files (program format file) (paged xs legend blocks) = ⊥
 Gives files (viewing format file name) (paged xs legend blocks) = ⊥
 Gives files (listing short file) (paged xs legend blocks) = ⊥
+Gives files (coding short file) (paged xs legend blocks) = ⊥
 Gives files (mapping file) (paged xs legend blocks) = ⊥
 Gives files (hinting file) (paged xs legend blocks) = ⊥
 Gives files (script file) (paged xs legend blocks) = ⊥
@@ -95,6 +98,8 @@ Gives files (history file) (paged xs legend blocks) = ⊥
 Gives files (message file) (paged xs legend blocks) = ⊥
 Gives files (listing short file) (viewed xs legend) = ⊥
 Gives files (listing short file) (lines xs) = ⊥
+Gives files (coding short file) (viewed xs legend) = ⊥
+Gives files (coding short file) (lines xs) = ⊥
 Gives files (mapping file) (viewed xs legend) = ⊥
 Gives files (hinting file) (viewed xs legend) = ⊥
 Gives files (mapping file) (lines xs) = ⊥
@@ -204,6 +209,7 @@ StopsAt files before now (program format file) stop = StopsAtProgram files befor
 StopsAt files before now (viewing format file name) stop = StopsAtProgram files before now format file stop ⊎ IsUnnamed files format file name stop
 StopsAt files before now (paging format file) stop = StopsAtProgram files before now format file stop
 StopsAt files before now (listing short file) stop = StopsAtProgram files before now (Source short) file stop
+StopsAt files before now (coding short file) stop = StopsAtProgram files before now (Source short) file stop
 StopsAt files before now (mapping file) stop = StopsAtProgram files before now (Source false) file stop
 StopsAt files before now (hinting file) stop = StopsAtProgram files before now (Source false) file stop
 StopsAt files before now (script file) stop = StopsAtScript files before now file stop

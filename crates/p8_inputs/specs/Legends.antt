@@ -13,7 +13,7 @@ abbrev pub IsEmpty : Ranges → Type 0
 IsEmpty ranges = (ranges.ranges ≡ []) × (ranges.texts ≡ [])
 
 abbrev pub TellsNothing : Legend → Type 0
-TellsNothing legend = IsEmpty legend.names × IsEmpty legend.places × IsEmpty legend.locals
+TellsNothing legend = IsEmpty legend.names × IsEmpty legend.places × IsEmpty legend.lines × IsEmpty legend.locals
 
 -- This legend is that of what is run: of the project of a source, whose code isn't short, and of anything else one that tells nothing.
 abbrev pub IsLegendFrom : Files → Format → (file : List ℕ) → Legend → Type 0

@@ -6,7 +6,7 @@ use Rattle.p8_objects.specs.Growing.{IsProjectOf}
 use Rattle.p8_objects.specs.Orders.{AreAllRead as FilesAreRead, ReadsInOrder}
 use Rattle.p8_inputs.specs.declared.program.Format.{Format}
 use Rattle.p8_inputs.specs.declared.program.Format.TheVariants.{Source}
-use Rattle.p8_inputs.specs.Asks.{Ask, program, viewing, paging, listing, mapping, hinting, script, history, message, Given, Gives}
+use Rattle.p8_inputs.specs.Asks.{Ask, program, viewing, paging, listing, coding, mapping, hinting, script, history, message, Given, Gives}
 
 -- the files of the project of a top file were read, each once, in their order
 abbrev pub IsProjectRead : Files → (top : List ℕ) → (before now : Log) → Type 0
@@ -23,6 +23,7 @@ IsAllRead files (program format file) before now = IsProgramRead files format fi
 IsAllRead files (viewing format file name) before now = IsProgramRead files format file before now
 IsAllRead files (paging format file) before now = IsProgramRead files format file before now
 IsAllRead files (listing short file) before now = IsProjectRead files file before now
+IsAllRead files (coding short file) before now = IsProjectRead files file before now
 IsAllRead files (mapping file) before now = IsProjectRead files file before now
 IsAllRead files (hinting file) before now = IsProjectRead files file before now
 IsAllRead files (script file) before now = WereRead before now (file ∷ [])
@@ -44,6 +45,7 @@ IsReadSoFar files (program format file) before now = IsProgramBegun files format
 IsReadSoFar files (viewing format file name) before now = IsProgramBegun files format file before now
 IsReadSoFar files (paging format file) before now = IsProgramBegun files format file before now
 IsReadSoFar files (listing short file) before now = ReadsInOrder files file before now
+IsReadSoFar files (coding short file) before now = ReadsInOrder files file before now
 IsReadSoFar files (mapping file) before now = ReadsInOrder files file before now
 IsReadSoFar files (hinting file) before now = ReadsInOrder files file before now
 IsReadSoFar files (script file) before now = MayBeRead file before now

@@ -56,6 +56,11 @@ first_by Image bytes = start_of (header_of bytes)
 first_by Eeprom bytes = start_of (header_of bytes)
 first_by (Source short) bytes = start_of (header_of bytes)
 
+-- an image of a kind as a `.binary` file has it
+abbrev pub binary_by : ImageKind → List ℕ → List ℕ
+binary_by kind.Binary bytes = bytes
+binary_by kind.Eeprom bytes = binary_of bytes
+
 -- an image of a kind as the other kind of file: of a `.binary` the memory that it begins with, of an `.eeprom` what a `.binary` has of it
 abbrev pub other_file : ImageKind → List ℕ → List ℕ
 other_file kind.Binary bytes = memory_of bytes

@@ -17,6 +17,7 @@ use Rattle.p8_build.specs.Sizes.{IsMeasured}
 use Rattle.p8_build.specs.declared.sizes.Size.{Size}
 use Rattle.p8_map.specs.Projects.{IsMapOf}
 use Rattle.p8_hint.specs.Projects.{IsHintsOf}
+use Rattle.p8_code.specs.Projects.{IsCodeOf, IsShortCodeOf}
 use Rattle.p8_legend.specs.Projects.{IsLegendOf}
 use Rattle.p8_page.specs.Page.{Block, map_block, source_blocks}
 use Rattle.p8_opt.specs.Shorts.{IsShortBuilt}
@@ -47,6 +48,16 @@ abbrev pub IsListingFrom : Files → (short : Bool) → (top text : List ℕ) �
 IsListingFrom files short top text =
     (sources : List NamedSource) × (clock : Clock) × (objects : List ObjectPart)
     × IsBuiltFrom files short top sources clock objects × (text ≡ listing_of (map (λ source. source.name) sources) objects)
+
+-- this text is the code of a project whose files have these bytes, with its short code where it is short
+abbrev pub IsCodeBy : (short : Bool) → (texts : List (List ℕ)) → List NamedSource → (text : List ℕ) → Type 0
+IsCodeBy false texts sources text = IsCodeOf texts sources text
+IsCodeBy true texts sources text = IsShortCodeOf texts sources text
+
+-- this text is the code of the project of a top file, by the bytes of its files
+abbrev pub IsCodeFrom : Files → (short : Bool) → (top text : List ℕ) → Type 0
+IsCodeFrom files short top text =
+    (sources : List NamedSource) × IsProjectOf files top sources × (texts : List (List ℕ)) × AreSources files sources texts × IsCodeBy short texts sources text
 
 -- this text is the map of the project of a top file, by the bytes of its files
 abbrev pub IsMapFrom : Files → (top text : List ℕ) → Type 0
@@ -89,6 +100,7 @@ pub record HasOneOutcome (files : List ℕ → Option (List ℕ)) : Type 0 where
   pub one_image : (short : Bool) (top : List ℕ) (some others : List NamedSource) (clock other : Clock) (objects parts : List ObjectPart)
       → IsBuiltFrom (Some files) short top some clock objects → IsBuiltFrom (Some files) short top others other parts
       → (some ≡ others) × (clock ≡ other) × (objects ≡ parts)
+  pub one_code : (short : Bool) (top a b : List ℕ) → IsCodeFrom (Some files) short top a → IsCodeFrom (Some files) short top b → a ≡ b
   pub one_map : (top a b : List ℕ) → IsMapFrom (Some files) top a → IsMapFrom (Some files) top b → a ≡ b
   pub one_hints : (top a b : List ℕ) → IsHintsFrom (Some files) top a → IsHintsFrom (Some files) top b → a ≡ b
   pub one_legend : (top : List ℕ) (a b : Legend) → IsProjectLegend (Some files) top a → IsProjectLegend (Some files) top b → a ≡ b

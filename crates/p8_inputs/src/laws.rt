@@ -3,7 +3,7 @@ ghost use Rattle.std.specs.Prelude.{ℕ, List, Option};
 ghost use Rattle.p8_inputs.specs.Asks.{HasOneReading};
 ghost use Rattle.p8_inputs.specs.Sources.{HasOneOutcome};
 
-/// Law: where a shelf tells its files, a source comes to one image and one listing, with short code or not, to one map, to one text of hints and to
+/// Law: where a shelf tells its files, a source comes to one image, one listing and one code, with short code or not, to one map, to one text of hints and to
 /// one legend, or to one refusal, or one name of it is missing, and no two of these.
 pub fn one_source()
     ensures { (files : List ℕ → Option (List ℕ)) → HasOneOutcome files }

@@ -3,6 +3,7 @@
 #![tactic(auto)]
 
 mod boots;
+mod codes;
 mod convert;
 mod inputs;
 mod laws;
@@ -13,6 +14,7 @@ mod stop;
 mod telling;
 mod view;
 
+pub use codes::{code_of_image, code_of_source};
 pub use convert::other_image;
 pub use inputs::{Inputs, Recorded, read_inputs, read_message, read_recorded};
 pub use laws::{one_reading, one_source};

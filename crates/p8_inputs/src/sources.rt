@@ -49,7 +49,11 @@ pub(crate) struct PagedImage {
 }
 
 /// The project of a top file, with the bytes of its files.
-fn project_in<S: Shelf>(alloc: Global, file: &str, shelf: &mut S) -> Result<Gathered, Stop>
+pub(crate) fn project_in<S: Shelf>(
+    alloc: Global,
+    file: &str,
+    shelf: &mut S,
+) -> Result<Gathered, Stop>
     ensures project { IfOk result (λ gathered. IsProject (S.files shelf.old) file.now (named_sources_of gathered.project)) }
     ensures sources { IfOk result (λ gathered. AreSources (S.files shelf.old) (named_sources_of gathered.project) gathered.sources) }
     ensures stopped { (short : Bool) → IfErr result (StopsAtProgram (S.files shelf.old) (S.faults shelf.old) (S.faults shelf.new) (Source short) file.now) }
@@ -101,7 +105,7 @@ fn refusal_in(
 }
 
 /// Why a project isn't built.
-fn stop_of_building(alloc: Global, gathered: &Gathered, fault: BuildFault) -> Stop
+pub(crate) fn stop_of_building(alloc: Global, gathered: &Gathered, fault: BuildFault) -> Stop
     requires whole { IsWhole (named_sources_of gathered.now.project) }
     requires beside { length gathered.now.sources ≡ length (named_sources_of gathered.now.project) }
     requires refused { IsRefusal (named_sources_of gathered.now.project) fault }

@@ -42,6 +42,7 @@ pub(crate) fn no_legend(alloc: Global) -> Legend
     Legend {
         names: Ranges::new(alloc),
         places: Ranges::new(alloc),
+        lines: Ranges::new(alloc),
         locals: Ranges::new(alloc),
     }
 }

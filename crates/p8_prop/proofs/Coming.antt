@@ -20,6 +20,7 @@ use Rattle.p8_finish.specs.declared.finish.Finish.{Finish}
 use Rattle.p8_finish.specs.declared.finish.Finish.TheVariants.{Summary}
 use Rattle.p8_finish.specs.Finishes.{told_by, IsWhole}
 use Rattle.p8_view.specs.declared.turns.ViewOptions.{ViewOptions}
+use Rattle.p8_code.specs.Images.{image_code}
 use Rattle.p8_serial.specs.Typed.{typed_text}
 use Rattle.p8_inputs.specs.declared.inputs.Inputs.{Inputs}
 use Rattle.p8_inputs.specs.declared.inputs.Recorded.{Recorded}
@@ -29,11 +30,11 @@ use Rattle.p8_inputs.specs.Inputs.{IsProgram, IsScriptFor}
 use Rattle.p8_inputs.specs.Legends.{HasName, IsLegendFrom}
 use Rattle.p8_inputs.specs.Pages.{AreBlocksFrom}
 use Rattle.p8_page.specs.Page.{Block}
-use Rattle.p8_inputs.specs.Programs.{format_for, world_of, memory_by, first_by, boot_by, format_of, other_file}
+use Rattle.p8_inputs.specs.Programs.{format_for, world_of, memory_by, first_by, boot_by, format_of, binary_by, other_file}
 use Rattle.p8_inputs.specs.Runs.{Begins, HasProperTrees}
-use Rattle.p8_inputs.specs.Sources.{IsImageFrom, IsListingFrom, IsMapFrom, IsHintsFrom}
+use Rattle.p8_inputs.specs.Sources.{IsImageFrom, IsListingFrom, IsCodeFrom, IsMapFrom, IsHintsFrom}
 use Rattle.p8_commands.specs.declared.kind.ImageKind.{ImageKind}
-use Rattle.p8_commands.specs.Commands.{Command, Dump, Running, BuildSource, ListSource, MapSource, HintSource, ExplainFile, Check, TypeFile, Convert, Make}
+use Rattle.p8_commands.specs.Commands.{Command, Dump, Running, BuildSource, ListSource, CodeSource, CodeImage, MapSource, HintSource, ExplainFile, Check, TypeFile, Convert, Make}
 use Rattle.p8_prop.specs.declared.work.Answer.{Answer}
 use Rattle.p8_prop.specs.declared.work.Answer.TheVariants.{Text, Bad}
 use Rattle.p8_prop.specs.declared.work.Work.{Work}
@@ -49,6 +50,13 @@ built files short file text is keeps = ((bytes text ∷ [], (is, tt), refl), kee
 
 pub listed : (files : Files) (short : Bool) (file text : List ℕ) → IsListingFrom files short file text → IsText files (ListSource short file) text
 listed files short file text is = ((bytes text ∷ [], (is, tt), refl), tt)
+
+-- so is the code of a source, and that of an image is by its bytes
+pub coded : (files : Files) (short : Bool) (file text : List ℕ) → IsCodeFrom files short file text → IsText files (CodeSource short file) text
+coded files short file text is = ((bytes text ∷ [], (is, tt), refl), tt)
+
+pub image-coded : (files : Files) (kind : ImageKind) (file text : List ℕ) → ((xs : List ℕ) × IsProgram files (format_of kind) file xs × (text ≡ image_code (binary_by kind xs))) → IsText files (CodeImage kind file) text
+image-coded files kind file text is = ((bytes is.0 ∷ [], (is.1, tt), is.2), tt)
 
 -- so is a map
 pub mapped : (files : Files) (file text : List ℕ) → IsMapFrom files file text → IsText files (MapSource file) text

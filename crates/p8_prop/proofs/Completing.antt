@@ -26,7 +26,7 @@ use Rattle.p8_inputs.specs.declared.stop.Stop.TheVariants as stop
 use Rattle.p8_inputs.specs.Asks.{Given, bytes, viewed, paged, lines, bytes_in, lines_in, HasOneReading, IsLegendIn, AreBlocksIn}
 use Rattle.p8_inputs.specs.Programs.{format_for, world_of}
 use Rattle.p8_inputs.proofs.Deciding.{unread-rose}
-use Rattle.p8_commands.specs.Commands.{Command, explains, BuildSource, ListSource, MapSource, HintSource, ExplainFile, ExplainNumber, RunMemory, RunProgram, Save, Check, Serial as ReadPin, TypeFile, Wave as ShowWave, Plot as DrawPins, ViewRun, PageRun, Convert, Make, Help}
+use Rattle.p8_commands.specs.Commands.{Command, explains, BuildSource, ListSource, CodeSource, CodeImage, MapSource, HintSource, ExplainFile, ExplainNumber, RunMemory, RunProgram, Save, Check, Serial as ReadPin, TypeFile, Wave as ShowWave, Plot as DrawPins, ViewRun, PageRun, Convert, Make, Help}
 use Rattle.p8_view.specs.declared.turns.ViewOptions.{ViewOptions}
 use Rattle.p8_view.specs.Ending.{view_of}
 use Rattle.p8_prop.specs.Texts.{selection_of, picture_of, options_of, dumped_range, asks_of, IsToldOf, IsViewOf, IsViewed, IsPageOf, IsPaged, IsTextOf, IsAskedFor, IsBadBy, IsBadHistory}
@@ -110,6 +110,8 @@ module _ (one_check : HasOneCheck) where
   text-one : (command : Command) (given : List Given) (a b : List ℕ) → IsTextOf command given a → IsTextOf command given b → a ≡ b
   text-one (BuildSource short file) given a b p q = p ∙ sym q
   text-one (ListSource short file) given a b p q = p ∙ sym q
+  text-one (CodeSource short file) given a b p q = p ∙ sym q
+  text-one (CodeImage kind file) given a b p q = p ∙ sym q
   text-one (MapSource file) given a b p q = p ∙ sym q
   text-one (HintSource file) given a b p q = p ∙ sym q
   text-one (ExplainFile file) given a b p q = p ∙ sym q

@@ -1,5 +1,6 @@
 mod Asking
 mod Coming
+mod PasmCounts
 mod OneCount
 mod Completing
 mod Doing

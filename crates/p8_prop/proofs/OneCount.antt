@@ -17,11 +17,14 @@ use Rattle.p8_access.proofs.Nexts.{some-injective}
 use Rattle.p8_bcog.specs.declared.state.State.{State}
 use Rattle.p8_bcog.specs.Counters.{IsAskedFrom, IsCounter}
 use Rattle.p8_bcog.specs.Replay.{engine_of, lived}
+use Rattle.p8_cog.specs.Counters.{IsCounterOf}
 use Rattle.p8_cog.specs.Laws.{one-asked}
 use Rattle.p8_cog.specs.Lives.{asks}
+use Rattle.p8_machine.specs.declared.asked.Asked.{Asked}
 use Rattle.p8_machine.specs.Asked.{IsNextAsked}
 use Rattle.p8_machine.specs.Places.{IsSpoken}
-use Rattle.p8_machine.specs.Counted.{AreAsked, AreCounters, IsCounterIn}
+use Rattle.p8_machine.specs.Counted.{AreAsked, AreCounters, HasCounter, IsCounterIn}
+use Rattle.p8_prop.proofs.PasmCounts.{pasm-one}
 
 -- ---- counters
 
@@ -51,21 +54,22 @@ asked_from-one e turns a b (m, s, begin, left, clock, access, going, asking, is)
     let state : Goes s begin left ≡ Goes t begin' left' = sym going ∙ ap (λ (k : ℕ). lived k e turns) same ∙ going' in
     sym is ∙ ap (at-of 0) state ∙ is'
 
-counter-one : (life : Begun) (turns : List Turn) (a b : Option ℕ) → IsCounter life turns a → IsCounter life turns b → a ≡ b
-counter-one (SpinBegun e) turns (Some a) (Some b) p q = ap Some (asked_from-one e turns a b p q)
-counter-one (SpinBegun e) turns (Some a) None p q = absurd (before-asking e turns 0 p.0 p.2 q.0 p.1 p.3 q.1 q.2 p.6 (omega arith))
-counter-one (SpinBegun e) turns None (Some b) p q = absurd (before-asking e turns 0 q.0 q.2 p.0 q.1 q.3 p.1 p.2 q.6 (omega arith))
-counter-one (SpinBegun e) turns None None p q = refl
-counter-one (PasmBegun loaded) turns None None p q = refl
-counter-one (PasmBegun loaded) turns (Some a) b p q = absurd p
-counter-one (PasmBegun loaded) turns None (Some b) p q = absurd q
+spin-one : (entered : Entered) (turns : List Turn) (a b : Option ℕ) → IsCounter (SpinBegun entered) turns a → IsCounter (SpinBegun entered) turns b → a ≡ b
+spin-one e turns (Some a) (Some b) p q = ap Some (asked_from-one e turns a b p q)
+spin-one e turns (Some a) None p q = absurd (before-asking e turns 0 p.0 p.2 q.0 p.1 p.3 q.1 q.2 p.6 (omega arith))
+spin-one e turns None (Some b) p q = absurd (before-asking e turns 0 q.0 q.2 p.0 q.1 q.3 p.1 p.2 q.6 (omega arith))
+spin-one e turns None None p q = refl
+
+counter-one : (memory : List ℕ) (life : Begun) (turns : List Turn) (a b : Option ℕ) → IsCounterOf memory life turns a → IsCounterOf memory life turns b → a ≡ b
+counter-one memory (SpinBegun e) turns a b p q = spin-one e turns a b p q
+counter-one memory (PasmBegun loaded) turns a b p q = pasm-one memory loaded turns a b p q
 
 counter_in-one : (w : World) (past : List Turn) (n : ℕ) (state : CogState) (a b : Option ℕ) → IsCounterIn w past n state a → IsCounterIn w past n state b → a ≡ b
 counter_in-one w past n Stopped a b p q = p ∙ sym q
 counter_in-one w past n (Starting since origin) a b p q = p ∙ sym q
 counter_in-one w past n (Running origin) a b p q =
     let life : q.0 ≡ p.0 = some-injective _ _ (sym q.1 ∙ p.1) in
-    counter-one p.0 (since_begin past n) a b p.2 (subst (λ (l : Begun). IsCounter l (since_begin past n) b) life q.2)
+    counter-one w.memory p.0 (since_begin past n) a b p.2 (subst (λ (l : Begun). IsCounterOf w.memory l (since_begin past n) b) life q.2)
 
 pub counters-one : (w : World) (past : List Turn) (a b : List (Option ℕ)) → AreCounters w past a → AreCounters w past b → a ≡ b
 counters-one w [] [] [] p q = refl
@@ -98,8 +102,19 @@ next-one w past n (Running origin) a b p q =
     let life : q.0 ≡ p.0 = some-injective _ _ (sym q.1 ∙ p.1) in
     told-one p.0 (since_begin past n) w.clocks a b p.2 p.3 (subst (λ (l : Begun). Tells (asks l (since_begin past n)) w.clocks b) life q.2) q.3
 
+has-one : (w : World) (past : List Turn) (n : ℕ) (state : CogState) (next : Next) (a b : Option ℕ) → HasCounter w past n state next a → HasCounter w past n state next b → a ≡ b
+has-one w past n state (At clock access) a b p q = counter_in-one w past n state a b p q
+has-one w past n state Quiet a b p q = p ∙ sym q
+has-one w past n state (More bound) a b p q = p ∙ sym q
+
+same-asked : (w : World) (past : List Turn) (n : ℕ) (state : CogState) (a b : Asked) → IsNextAsked w past n state a.next × HasCounter w past n state a.next a.counter → IsNextAsked w past n state b.next × HasCounter w past n state b.next b.counter → a ≡ b
+same-asked w past n state a b p q =
+    let next : a.next ≡ b.next = next-one w past n state a.next b.next p.0 q.0 in
+    let counter : a.counter ≡ b.counter = has-one w past n state b.next a.counter b.counter (subst (λ (x : Next). HasCounter w past n state x a.counter) next p.1) q.1 in
+    λ i. record { next = next i; counter = counter i }
+
 -- lists of one length with the same thing at each place are one list
-each-one : (xs ys : List Next) → length xs ≡ length ys → ((n : ℕ) (x y : Next) → slice_get xs n ≡ Some x → slice_get ys n ≡ Some y → x ≡ y) → xs ≡ ys
+each-one : (xs ys : List Asked) → length xs ≡ length ys → ((n : ℕ) (x y : Asked) → slice_get xs n ≡ Some x → slice_get ys n ≡ Some y → x ≡ y) → xs ≡ ys
 each-one [] [] same each = refl
 each-one [] (y ∷ ys) same each = absurd (omega (arith, same))
 each-one (x ∷ xs) [] same each = absurd (omega (arith, same))
@@ -107,7 +122,7 @@ each-one (x ∷ xs) (y ∷ ys) same each =
     let less : length xs ≡ length ys = omega (arith, same) in
     let first : x ≡ y = each 0 x y refl refl in
     let more : xs ≡ ys = each-one xs ys less (λ n a b p q. each (suc n) a b p q) in
-    ap (λ (z : Next). z ∷ xs) first ∙ ap (λ (zs : List Next). y ∷ zs) more
+    ap (λ (z : Asked). z ∷ xs) first ∙ ap (λ (zs : List Asked). y ∷ zs) more
 
-pub asked-one : (w : World) (past : List Turn) (a b : List Next) → AreAsked w past a → AreAsked w past b → a ≡ b
-asked-one w past a b p q = each-one a b (p.0 ∙ sym q.0) (λ n x y at other. next-one w past n (cog_state w past n) x y (p.1 n x at) (q.1 n y other))
+pub asked-one : (w : World) (past : List Turn) (a b : List Asked) → AreAsked w past a → AreAsked w past b → a ≡ b
+asked-one w past a b p q = each-one a b (p.0 ∙ sym q.0) (λ n x y at other. same-asked w past n (cog_state w past n) x y (p.1 n x at) (q.1 n y other))

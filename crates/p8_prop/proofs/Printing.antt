@@ -14,7 +14,7 @@ use Rattle.p8_inputs.specs.Inputs.{IsProgram}
 use Rattle.p8_inputs.specs.declared.stop.Stop.{Stop}
 use Rattle.p8_inputs.specs.declared.stop.Stop.TheVariants as stop
 use Rattle.p8_commands.specs.declared.table.Subcommand.TheVariants as named
-use Rattle.p8_commands.specs.Commands.{Command, Running, BuildSource, ListSource, MapSource, HintSource, ExplainFile, ExplainNumber, RunMemory, RunProgram, Save, Check, Serial as ReadPin, TypeFile, Wave as ShowWave, Plot as DrawPins, ViewRun, PageRun, Convert, Make, Help, has_flag, said_to, command_of, alone_of}
+use Rattle.p8_commands.specs.Commands.{Command, Running, BuildSource, ListSource, CodeSource, CodeImage, MapSource, HintSource, ExplainFile, ExplainNumber, RunMemory, RunProgram, Save, Check, Serial as ReadPin, TypeFile, Wave as ShowWave, Plot as DrawPins, ViewRun, PageRun, Convert, Make, Help, has_flag, said_to, command_of, alone_of}
 use Rattle.p8_commands.specs.Table.{run_entry}
 use Rattle.p8_prop.specs.declared.status.Status.{Status}
 use Rattle.p8_prop.specs.declared.status.Status.TheVariants as status
@@ -70,6 +70,8 @@ alone-some : (said : Option Command) (is : Command) → alone_of said ≡ Some i
 alone-some None is e = e
 alone-some (Some (BuildSource short file)) is e = e
 alone-some (Some (ListSource short file)) is e = e
+alone-some (Some (CodeSource short file)) is e = e
+alone-some (Some (CodeImage kind file)) is e = e
 alone-some (Some (MapSource file)) is e = e
 alone-some (Some (HintSource file)) is e = e
 alone-some (Some (ExplainFile file)) is e = e

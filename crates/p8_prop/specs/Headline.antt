@@ -25,9 +25,9 @@ use Rattle.p8_inputs.specs.Pages.{AreBlocksFrom}
 use Rattle.p8_page.specs.Page.{Block}
 use Rattle.p8_inputs.specs.Programs.{format_for, format_named, world_of}
 use Rattle.p8_inputs.specs.Sources.{IsBuiltBy, IsBuiltFrom}
-use Rattle.p8_commands.specs.Commands.{Command, Dump, Running, BuildSource, ListSource, MapSource, HintSource, ExplainFile, ExplainNumber, RunMemory}
-use Rattle.p8_commands.specs.Commands.{RunProgram, Save, Check, Serial as ReadPin, TypeFile, Wave as ShowWave, Plot as DrawPins, ViewRun, PageRun}
-use Rattle.p8_commands.specs.Commands.{Convert, Make, Help}
+use Rattle.p8_commands.specs.Commands.{Command, Dump, Running, BuildSource, ListSource, CodeSource, CodeImage, MapSource, HintSource}
+use Rattle.p8_commands.specs.Commands.{ExplainFile, ExplainNumber, RunMemory, RunProgram, Save, Check, Serial as ReadPin, TypeFile, Wave as ShowWave}
+use Rattle.p8_commands.specs.Commands.{Plot as DrawPins, ViewRun, PageRun, Convert, Make, Help}
 use Rattle.p8_finish.specs.declared.finish.Finish.{Finish}
 use Rattle.p8_finish.specs.declared.finish.Finish.TheVariants.{Trace, Saved, Serial, Wave, Plot}
 use Rattle.p8_finish.specs.Finishes.{told_by, IsWhole}
@@ -98,6 +98,8 @@ pub record IsBuild (files : Files) (short : Bool) (file text : List ℕ) : Type 
 abbrev pub IsHeadline : Files → Command → (text : List ℕ) → Type 0
 IsHeadline files (BuildSource short file) text = IsBuild files short file text
 IsHeadline files (ListSource short file) text = Unit {0}
+IsHeadline files (CodeSource short file) text = Unit {0}
+IsHeadline files (CodeImage kind file) text = Unit {0}
 IsHeadline files (MapSource file) text = Unit {0}
 IsHeadline files (HintSource file) text = Unit {0}
 IsHeadline files (ExplainFile file) text = Unit {0}

@@ -1,6 +1,6 @@
 -- What each command reads, and the text that it asks for (this project's profile).
 use Rattle.std.specs.Prelude.{ℕ, ◌+◌, ◌≡◌, nat_le, if◌then◌else◌, Bool, false, List, [], ◌∷◌, ◌++◌, Option, Some, None, option_and_then, reverse, codes}
-use Rattle.p8_access.specs.declared.lives.Next.{Next}
+use Rattle.p8_machine.specs.declared.asked.Asked.{Asked}
 use Rattle.p8_access.specs.declared.memory.Boot.{Boot}
 use Rattle.p8_access.specs.declared.order.Turn.{Turn}
 use Rattle.p8_access.specs.Worlds.{World}
@@ -19,6 +19,7 @@ use Rattle.p8_finish.specs.declared.finish.Finish.TheVariants.{Trace, Summary, S
 use Rattle.p8_finish.specs.Finishes.{told_by}
 use Rattle.p8_finish.specs.Checks.{good_line}
 use Rattle.p8_explain.specs.Explaining.{entry_of}
+use Rattle.p8_code.specs.Images.{image_code}
 use Rattle.p8_wave.specs.declared.view.View.{View}
 use Rattle.p8_serial.specs.Typed.{typed_text}
 use Rattle.p8_view.specs.declared.turns.ViewOptions.{ViewOptions}
@@ -28,13 +29,13 @@ use Rattle.p8_page.specs.Page.{Block, changes_by, page_of, run_blocks}
 use Rattle.p8_wave.specs.declared.variables.Selection.{Selection}
 use Rattle.p8_inputs.specs.declared.program.Format.{Format}
 use Rattle.p8_inputs.specs.declared.program.Format.TheVariants.{Memory, Source}
-use Rattle.p8_inputs.specs.Programs.{format_for, format_named, format_of, other_file, boot_by, world_of}
-use Rattle.p8_inputs.specs.Asks.{Ask, program, listing, mapping, hinting, message, run_asks, view_asks, page_asks, check_asks, Given, bytes_in}
-use Rattle.p8_inputs.specs.Asks.{lines_in, later_bytes_in, IsLegendIn, AreBlocksIn, Give}
+use Rattle.p8_inputs.specs.Programs.{format_for, format_named, format_of, binary_by, other_file, boot_by, world_of}
+use Rattle.p8_inputs.specs.Asks.{Ask, program, listing, coding, mapping, hinting, message, run_asks, view_asks, page_asks, check_asks, Given}
+use Rattle.p8_inputs.specs.Asks.{bytes_in, lines_in, later_bytes_in, IsLegendIn, AreBlocksIn, Give}
 use Rattle.p8_inputs.specs.Legends.{range_in}
-use Rattle.p8_commands.specs.Commands.{Command, Dump, RangeOf, Named, Running, BuildSource, ListSource, MapSource, HintSource, ExplainFile}
-use Rattle.p8_commands.specs.Commands.{ExplainNumber, RunMemory, RunProgram, Save, Check, Serial as ReadPin, TypeFile, Wave as ShowWave}
-use Rattle.p8_commands.specs.Commands.{Plot as DrawPins, ViewRun, PageRun, Convert, Make, Help}
+use Rattle.p8_commands.specs.Commands.{Command, Dump, RangeOf, Named, Running, BuildSource, ListSource, CodeSource, CodeImage, MapSource}
+use Rattle.p8_commands.specs.Commands.{HintSource, ExplainFile, ExplainNumber, RunMemory, RunProgram, Save, Check, Serial as ReadPin, TypeFile}
+use Rattle.p8_commands.specs.Commands.{Wave as ShowWave, Plot as DrawPins, ViewRun, PageRun, Convert, Make, Help}
 use Rattle.p8_commands.specs.Pages.{help_text}
 
 -- what a wave shows, and what a picture of pins
@@ -72,6 +73,8 @@ accepted_line file = file ++ codes ": nothing is refused" ++ 10 ∷ []
 abbrev pub asks_of : Command → List Ask
 asks_of (BuildSource short file) = program (Source short) file ∷ []
 asks_of (ListSource short file) = listing short file ∷ []
+asks_of (CodeSource short file) = coding short file ∷ []
+asks_of (CodeImage kind file) = program (format_of kind) file ∷ []
 asks_of (MapSource file) = mapping file ∷ []
 asks_of (HintSource file) = hinting file ∷ []
 asks_of (ExplainFile file) = program (Source false) file ∷ []
@@ -101,7 +104,7 @@ IsToldOfRun format run finish given text = IsToldOf (world_of format (bytes_in g
 -- the view of a past: its turns with the counter of each, the oldest first, what each cog asks next, and the dump
 abbrev pub IsViewOf : World → List Turn → ViewOptions → Legend → (dump : Option (ℕ × ℕ)) → List ℕ → Type 0
 IsViewOf w past options legend dump text =
-    (counters : List (Option ℕ)) × (asked : List Next)
+    (counters : List (Option ℕ)) × (asked : List Asked)
     × AreCounters w past (reverse counters) × AreAsked w past asked × (text ≡ view_of options legend w counters asked past dump)
 
 -- the view of the ended history of a world
@@ -138,6 +141,8 @@ HasVerdict format given verdict = IsVerdict (boot_by format (bytes_in given)) (l
 abbrev pub IsTextOf : Command → List Given → List ℕ → Type 0
 IsTextOf (BuildSource short file) given text = text ≡ bytes_in given
 IsTextOf (ListSource short file) given text = text ≡ bytes_in given
+IsTextOf (CodeSource short file) given text = text ≡ bytes_in given
+IsTextOf (CodeImage kind file) given text = text ≡ image_code (binary_by kind (bytes_in given))
 IsTextOf (MapSource file) given text = text ≡ bytes_in given
 IsTextOf (HintSource file) given text = text ≡ bytes_in given
 IsTextOf (ExplainFile file) given text = text ≡ accepted_line file

@@ -4,6 +4,7 @@
 #![tactic(auto)]
 
 mod answer;
+mod code;
 mod driver;
 mod laws;
 mod page;

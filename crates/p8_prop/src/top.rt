@@ -20,8 +20,8 @@ use std::thread::Threads;
 /// Does what the words say, and writes its text to `out`. [`help_page`](p8_commands::help_page) tells each command with its arguments and their
 /// limits, and `help` and `help COMMAND` write that page.
 ///
-/// - `build` and `list` write the image and the listing of a source, with `--short` with shorter code of the same meaning, and `map` writes where
-///   everything of it stands in the hub;
+/// - `build` and `list` write the image and the listing of a source, and `code` its code for reading, with `--short` with shorter code of the same
+///   meaning, or that of an image; `map` writes where everything of a source stands in the hub;
 /// - `explain` tells why a source is refused, or a refusal by its number, and `hint` what is accepted in a source and is most likely a slip;
 /// - `raw` and `run` write the trace of a run, `save` its history as a file, and `check` how many turns a history file has that is the one of
 ///   a run;

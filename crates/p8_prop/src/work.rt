@@ -23,6 +23,7 @@ ghost use Rattle.p8_prop.specs.Headline.{IsBuild};
 ghost use Rattle.p8_prop.specs.Texts.{accepted_line as accepted_line_of, asks_of};
 ghost use Rattle.p8_prop.specs.Works.{IsCheckedBy, IsRunWork, IsWork, world_in};
 
+use crate::code::{image_code_work, source_code_work};
 use crate::laws::{builds_keep_meaning, runs_are_told};
 use crate::page::{Paging, page_work};
 use crate::view::{Viewing, view_work};
@@ -406,6 +407,8 @@ pub fn work_of<S: Shelf>(alloc: Global, command: Command<'_>, shelf: &mut S) -> 
     match command {
         Command::Build { short, file } => image_work(alloc, short, file, shelf),
         Command::List { short, file } => listing_work(alloc, short, file, shelf),
+        Command::CodeSource { short, file } => source_code_work(alloc, short, file, shelf),
+        Command::CodeImage { kind, file } => image_code_work(alloc, kind, file, shelf),
         Command::Map { file } => map_work(alloc, file, shelf),
         Command::Hint { file } => hint_work(alloc, file, shelf),
         Command::ExplainFile { file } => accepted_work(alloc, file, shelf),
