@@ -150,7 +150,7 @@ static BLINKING: [(Row, &[u8]); 5] = [
         16978 212.225 us cog 1 read long 0000 = 04C4B400 led.spin:9 blink\n\
         17595 219.937 us cog 1 cnt 000044BB led.spin:9 blink\n\
         cog 0 is stopped at clock 8720\n\
-        cog 1 runs since clock 8530, its last turn is at clock 17595, waits since clock 17665 for the counter to be 97595\n\
+        cog 1 runs since clock 8530, its last turn is at clock 17595, waits since clock 17665 for the counter to be 97595 led.spin:9 blink\n\
         cog 2 is idle\ncog 3 is idle\ncog 4 is idle\ncog 5 is idle\ncog 6 is idle\ncog 7 is idle\n\
         17 turns are made, the last at clock 17595\nno cog makes another before clock 90000\n0054: 04 00 00 00\n",
     ),
@@ -163,7 +163,7 @@ static BLINKING: [(Row, &[u8]); 5] = [
         b"16828 210.350 us cog 1 dira 00000010, 4 low led.spin:9 blink\n\
         16866 210.825 us cog 1 read long pin = 00000004 led.spin:9 blink\n\
         cog 0 is stopped at clock 8720\n\
-        cog 1 runs since clock 8530, its last turn is at clock 17595, waits since clock 17665 for the counter to be 97595\n\
+        cog 1 runs since clock 8530, its last turn is at clock 17595, waits since clock 17665 for the counter to be 97595 led.spin:9 blink\n\
         cog 2 is idle\ncog 3 is idle\ncog 4 is idle\ncog 5 is idle\ncog 6 is idle\ncog 7 is idle\n\
         17 turns are made, the last at clock 17595\nno cog makes another before clock 90000\n0054: 04 00 00 00\n",
     ),
@@ -175,7 +175,7 @@ static BLINKING: [(Row, &[u8]); 5] = [
         b"16828 210.350 us cog 1 dira 00000010, 4 low led.spin:9 blink\n\
         16908 211.350 us cog 1 outa 00000010, 4 high led.spin:9 blink\n\
         cog 0 is stopped at clock 8720\n\
-        cog 1 runs since clock 8530, its last turn is at clock 17595, waits since clock 17665 for the counter to be 97595\n\
+        cog 1 runs since clock 8530, its last turn is at clock 17595, waits since clock 17665 for the counter to be 97595 led.spin:9 blink\n\
         cog 2 is idle\ncog 3 is idle\ncog 4 is idle\ncog 5 is idle\ncog 6 is idle\ncog 7 is idle\n\
         17 turns are made, the last at clock 17595\nno cog makes another before clock 90000\n0054: 04 00 00 00\n",
     ),
@@ -185,7 +185,7 @@ static BLINKING: [(Row, &[u8]); 5] = [
             quiet: true,
             ..ALL
         },
-        b"cog 0 runs since clock 16, its last turn is at clock 8432, does next at clock 8512: write long pin = 00000004\n\
+        b"cog 0 runs since clock 16, its last turn is at clock 8432, does next at clock 8512: write long pin = 00000004 led.spin:6 start\n\
         cog 1 is idle\ncog 2 is idle\ncog 3 is idle\ncog 4 is idle\ncog 5 is idle\ncog 6 is idle\ncog 7 is idle\n\
         5 turns are made, the last at clock 8432\nno more are asked for; --turns gives more\n0054: 00 00 00 00\n",
     ),
@@ -195,7 +195,8 @@ static BLINKING: [(Row, &[u8]); 5] = [
             cog: Some(1),
             ..ALL
         },
-        b"cog 0 runs since clock 16, its last turn is at clock 8528, does next at clock 8640: write long 007C = 00000002\n\
+        b"cog 0 runs since clock 16, its last turn is at clock 8528, does next at clock 8640: write long start.result = 00000002 \
+        led.spin:6 start\n\
         cog 1 is started at clock 8528 and has had no turn yet\n\
         cog 2 is idle\ncog 3 is idle\ncog 4 is idle\ncog 5 is idle\ncog 6 is idle\ncog 7 is idle\n\
         7 turns are made, the last at clock 8528\nno more are asked for; --turns gives more\n0054: 04 00 00 00\n",
@@ -210,11 +211,18 @@ fn a_spin_program_with_its_names(rt: HostRuntime) -> Result<(), Fail> {
     Ok(())
 }
 
-/// Whether the view of a raw program, of which no name is known, begins so.
-fn begins(alloc: Global, row: &Row, program: &[u8], expected: &[u8]) -> Result<bool, NoMemory>
+/// Whether the view of a raw program, of which these lines of DAT are known and no name, begins so.
+fn begins(
+    alloc: Global,
+    row: &Row,
+    program: &[u8],
+    lines: &[Told],
+    expected: &[u8],
+) -> Result<bool, NoMemory>
     requires { length program.now ≤ 32768 }
 {
-    let legend = Legend::empty(alloc);
+    let mut legend = Legend::empty(alloc);
+    put(alloc, &mut legend.lines, lines)?;
     let text = seen(alloc, Boot::raw(alloc, program)?, &legend, row)?;
     Ok(text.as_slice().starts_with(expected))
 }
@@ -234,7 +242,72 @@ const WOKEN: &[u8] = b"16 cog 0 load of 0000, 496 longs\n\
 
 #[test]
 fn a_cog_wakes_another(rt: HostRuntime) -> Result<(), Fail> {
-    assert!(rt; matches!(begins(rt.alloc(), &ALL, &WAKING, WOKEN), Ok(true)));
+    assert!(rt; matches!(begins(rt.alloc(), &ALL, &WAKING, &[], WOKEN), Ok(true)));
+    Ok(())
+}
+
+/// The lines of its instructions; cog 1 is loaded from $0014 on.
+static WAKING_LINES: [Told; 7] = [
+    (0x00, 0x04, b"wake.spin:3"),
+    (0x04, 0x08, b"wake.spin:4"),
+    (0x08, 0x0C, b"wake.spin:5"),
+    (0x0C, 0x10, b"wake.spin:6"),
+    (0x10, 0x14, b"wake.spin:7"),
+    (0x14, 0x18, b"wake.spin:10"),
+    (0x18, 0x1C, b"wake.spin:11"),
+];
+
+const WOKEN_LINES: &[u8] = b"16 cog 0 load of 0000, 496 longs\n\
+    8224 cog 0 coginit 1 pasm 0014 0000 wake.spin:3\n\
+    8226 cog 1 load of 0014, 496 longs\n\
+    16640 cog 0 waitcnt until 16640 wake.spin:4\n\
+    16645 cog 0 outa 00000001 wake.spin:5\n\
+    16649 cog 0 dira 00000001, 0 high wake.spin:6\n\
+    16649 cog 1 waitpeq 00000001 00000001 wake.spin:10\n\
+    16656 cog 0 cogstop 0, 0 input wake.spin:7\n\
+    16658 cog 1 cogstop 1 wake.spin:11\n\
+    cog 0 is stopped at clock 16656\ncog 1 is stopped at clock 16658\ncog 2 is idle\n";
+
+#[test]
+fn instructions_with_their_lines(rt: HostRuntime) -> Result<(), Fail> {
+    let shown = begins(rt.alloc(), &ALL, &WAKING, &WAKING_LINES, WOKEN_LINES);
+    assert!(rt; matches!(shown, Ok(true)));
+    Ok(())
+}
+
+/// A program that changes its own third instruction before it comes there, from clock 8,208 on:
+///
+/// ```text
+/// $0000  add 2, #1
+/// $0004  nop
+/// $0008  mov dira, #0     the cog executes mov dira, #1
+/// $000C  mov outa, #1
+/// $0010  mov ctra, #1     there is no counter A: a halt
+/// ```
+const CHANGING: [u8; 20] = [
+    0x01, 0x04, 0xFC, 0x80, 0x00, 0x00, 0x00, 0x00, 0x00, 0xEC, 0xFF, 0xA0, 0x01, 0xE8, 0xFF, 0xA0,
+    0x01, 0xF0, 0xFF, 0xA0,
+];
+
+static CHANGING_LINES: [Told; 5] = [
+    (0x00, 0x04, b"code.spin:2"),
+    (0x04, 0x08, b"code.spin:3"),
+    (0x08, 0x0C, b"code.spin:4"),
+    (0x0C, 0x10, b"code.spin:5"),
+    (0x10, 0x14, b"code.spin:6"),
+];
+
+/// No line of the source has the instruction that the cog executes in its third register.
+const CHANGED: &[u8] = b"16 cog 0 load of 0000, 496 longs\n\
+    8219 cog 0 dira 00000001, 0 low\n\
+    8223 cog 0 outa 00000001, 0 high code.spin:5\n\
+    8227 cog 0 halt register 1F8, 0 input code.spin:6\n\
+    cog 0 halts at clock 8227: register 1F8 code.spin:6\ncog 1 is idle\n";
+
+#[test]
+fn a_changed_instruction_has_no_line(rt: HostRuntime) -> Result<(), Fail> {
+    let shown = begins(rt.alloc(), &ALL, &CHANGING, &CHANGING_LINES, CHANGED);
+    assert!(rt; matches!(shown, Ok(true)));
     Ok(())
 }
 
@@ -271,7 +344,7 @@ static WAITING: [([u8; 8], &[u8]); 6] = [
 
 /// Whether the end of the view of a program, of which no turn is shown, begins so.
 fn ends(alloc: Global, program: &[u8; 8], expected: &[u8]) -> Result<bool, NoMemory> {
-    begins(alloc, &NONE, program, expected)
+    begins(alloc, &NONE, program, &[], expected)
 }
 
 #[test]
@@ -279,5 +352,22 @@ fn what_a_cog_waits_for(rt: HostRuntime) -> Result<(), Fail> {
     for (program, expected) in &WAITING {
         assert!(rt; matches!(ends(rt.alloc(), program, expected), Ok(true)));
     }
+    Ok(())
+}
+
+/// The wait for a pin, with its line.
+const WAITING_LINE: &[u8] =
+    b"cog 0 runs since clock 16, its last turn is at clock 7952, waits since clock 8212 for the pins 00000008 to be 00000008 wait.spin:2\n";
+
+#[test]
+fn where_a_cog_waits(rt: HostRuntime) -> Result<(), Fail> {
+    let lines: [Told; 2] = [(0x00, 0x04, b"wait.spin:2"), (0x04, 0x08, b"wait.spin:3")];
+    let (program, _) = &WAITING[3];
+    assert!(rt;
+        matches!(
+            begins(rt.alloc(), &NONE, program, &lines, WAITING_LINE),
+            Ok(true)
+        )
+    );
     Ok(())
 }

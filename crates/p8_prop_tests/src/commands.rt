@@ -35,6 +35,14 @@ const SHORT_LISTING: &[u8] = b"object loop.spin 0010\nmethod 1 0018\n0018 04 7E\
 /// The listing of `PUB main`.
 const LISTING: &[u8] = b"object main.spin 0010\nmethod 1 0018\n0018 32\n";
 
+/// The code of `PUB main`.
+const CODE: &[u8] =
+    b"object main.spin 0010\nmethod 1 0018 main\n  1: PUB main\n0018 32                 RETURN\n";
+
+/// The code of its image, which has three bytes behind the method.
+const IMAGE_CODE: &[u8] =
+    b"object 0010\nmethod 1 0018\n0018 32                 RETURN\n0019 string 0, 0, 0\n";
+
 /// The levels of pin 0 up to clock 2000, 100 clocks a column, with that script.
 const NARROW: &[u8] = b"P0  ----------_-_____-_-\n    |         |\n    0         1000\n\
     124 turns are made, the last at clock 1984: no cog makes another before clock 2000\n";
@@ -198,10 +206,12 @@ fn is_refused(alloc: Global, refusal: &Refusal) -> Result<bool, NoMemory> {
 }
 
 /// Calls and what they write. An option stands before FILE, and another one between FILE and CLOCKS.
-static ANSWERS: [(&str, &[u8]); 22] = [
+static ANSWERS: [(&str, &[u8]); 24] = [
     ("run --alone a.binary --dump=0000:2 20000", TEXT),
     ("build main.spin", IMAGE),
     ("list main.spin", LISTING),
+    ("code main.spin", CODE),
+    ("code a.binary", IMAGE_CODE),
     ("run main.spin 20000 --alone --dump 0000:2", TEXT),
     ("save a.binary 17 --raw", HISTORY),
     ("check a.binary a.history --raw", b"good 1\n"),
@@ -246,7 +256,7 @@ fn carries_commands_out(rt: HostRuntime) {
 }
 
 /// Calls whose files or whose text are at fault.
-static FAULTS: [Refusal; 17] = [
+static FAULTS: [Refusal; 19] = [
     (
         "build bad.spin",
         0,
@@ -337,6 +347,20 @@ static FAULTS: [Refusal; 17] = [
         0,
         Status::Missing,
         "prop: kid.spin is missing\n",
+    ),
+    (
+        "code outer.spin",
+        3,
+        0,
+        Status::Refused,
+        "prop: next.spin:2:14: 6 Unexpected\n",
+    ),
+    (
+        "code empty.binary",
+        0,
+        0,
+        Status::BadImage,
+        "prop: empty.binary: length 0\n",
     ),
     (
         "view five.spin 20000 --dump y",
@@ -442,7 +466,7 @@ fn an_empty_word_is_a_file(rt: HostRuntime) {
 /// thread, too great a seed and none, no words, too many clocks of a run that is traced, read and shown, short code of an image, pins and clocks that
 /// there aren't, too few columns and too many, numbers of digits alone that are none of a refusal, words that these commands don't have, a cog and a
 /// clock that there aren't, too many turns of a page, a cog of a page, and clocks that end before they begin.
-static NO_COMMANDS: [&str; 33] = [
+static NO_COMMANDS: [&str; 35] = [
     "save a.binary 17 --turns 40001",
     "serial a.binary 1951 32 100",
     "raw a.binary 1 --turns 2 --turns=2",
@@ -458,6 +482,8 @@ static NO_COMMANDS: [&str; 33] = [
     "serial a.binary 100000001 0 2",
     "wave a.binary 4000000001 --alone",
     "run none.binary 1 --short --alone",
+    "code none.binary --short",
+    "code main.spin 20000",
     "plot a.binary 8 0,3-1 --alone",
     "plot a.binary 8 32 --alone",
     "plot a.binary 8 0 5:9 --alone",

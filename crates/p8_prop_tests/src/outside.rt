@@ -13,7 +13,7 @@ const WRITES: u64 = 100;
 /// Words, the number of the read that fails, and the line that tells it.
 type Unread = (&'static str, u64, &'static str);
 
-static UNREAD: [Unread; 10] = [
+static UNREAD: [Unread; 11] = [
     (RUN, 1, "prop: cannot read main.spin\n"),
     (RUN, 2, "prop: cannot read blink.spin\n"),
     (RUN, 3, "prop: cannot read a.pins\n"),
@@ -28,6 +28,7 @@ static UNREAD: [Unread; 10] = [
         "prop: cannot read a.pins\n",
     ),
     ("list main.spin", 2, "prop: cannot read blink.spin\n"),
+    ("code main.spin", 2, "prop: cannot read blink.spin\n"),
     (
         "page main.spin 1 --pins=a.pins",
         3,

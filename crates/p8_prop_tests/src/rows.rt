@@ -83,12 +83,22 @@ fn leaves(alloc: Global, line: &str, text: &[u8]) -> Result<bool, NoMemory> {
 }
 
 /// Calls and what they write.
-static ANSWERS: [(&str, &[u8]); 8] = [
+static ANSWERS: [(&str, &[u8]); 10] = [
     ("convert b.eeprom", IMAGE),
     ("run b.eeprom 20000 --alone --dump=0000:2", TEXT),
     (
         "list sum.spin --short",
         b"object sum.spin 0010\nmethod 1 0018\n0018 38 0E\n001A 41\n001B 32\n",
+    ),
+    (
+        "code sum.spin --short",
+        b"object sum.spin 0010\nmethod 1 0018 main\n  4:   a := 2 + 3 * 4\n\
+        0018 38 0E              PUSH_BYTE_LIT 14\n001A 41                 POP_VARMEM_LONG a\n\
+        \x20 3: PUB main\n001B 32                 RETURN\n",
+    ),
+    (
+        "code b.eeprom",
+        b"object 0010\nmethod 1 0018\n0018 32                 RETURN\n0019 string 0, 0, 0\n",
     ),
     (
         "list never.spin --short",

@@ -152,3 +152,57 @@ fn tells_frames(alloc: Global) -> Result<bool, NoMemory> {
 fn tells_what_bytecodes_name_in_frames(rt: HostRuntime) {
     assert!(rt; matches!(tells_frames(rt.alloc()), Ok(true)));
 }
+
+/// A driver: its DAT begins at 0018, behind the object's table, with `org` that has no byte.
+const DRIVER: &[u8] = b"PUB main
+  cognew(@go, 0)
+DAT
+        org 0
+go      mov dira, #1
+        long 1, 2
+:end    jmp #:end
+last    byte 7
+";
+
+/// The lines of DAT that have these addresses.
+static LINES: [(u16, &str); 7] = [
+    (0x17, ""),
+    (0x18, " top.spin:5"),
+    (0x1B, " top.spin:5"),
+    (0x1C, " top.spin:6"),
+    (0x23, " top.spin:6"),
+    (0x24, " top.spin:7"),
+    (0x28, " top.spin:8"),
+];
+
+/// Whether a legend tells this line of an address.
+fn tells_line(
+    alloc: Global,
+    legend: &Legend,
+    address: Option<u16>,
+    line: &str,
+) -> Result<bool, NoMemory> {
+    let mut text = Vec::new(alloc);
+    legend.push_line(&mut text, address)?;
+    Ok(text.as_slice() == line.as_bytes())
+}
+
+/// Whether the legend of that source tells those lines.
+fn tells_lines(alloc: Global) -> Result<bool, NoMemory> {
+    let mut shelf = shelf_of(alloc, &[("top.spin", DRIVER)], 0)?;
+    let legend = legend_on(alloc, &mut shelf);
+    drop(shelf);
+    let Some(legend) = legend else {
+        return Ok(false);
+    };
+    let mut all = tells_line(alloc, &legend, None, "")?;
+    for (address, line) in &LINES {
+        all = all && tells_line(alloc, &legend, Some(*address), line)?;
+    }
+    Ok(all)
+}
+
+#[test]
+fn tells_the_lines_of_dat(rt: HostRuntime) {
+    assert!(rt; matches!(tells_lines(rt.alloc()), Ok(true)));
+}

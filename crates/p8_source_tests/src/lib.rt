@@ -9,6 +9,8 @@ mod arguments;
 #[cfg(test)]
 mod assembly;
 #[cfg(test)]
+mod codes;
+#[cfg(test)]
 mod components;
 #[cfg(test)]
 mod explanations;
