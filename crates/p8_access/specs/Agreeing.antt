@@ -8,11 +8,13 @@ use Rattle.p8_access.specs.Courses.{Course, Finish, Stop, Ask, Told, Wants, Leav
 use Rattle.p8_access.specs.Timing.{Outcome, Asks, Goes, Ends, behind, played}
 use Rattle.p8_access.specs.Replays.{Engine, step, after, replayed, told_step, told_after, retold, answer_of, StandAlike}
 
-if-alike : {S : Type 0} (b : Bool) (o : Outcome S) (t : Told S) (made : List Access) → StandAlike o t → StandAlike (if b then Ends else o) (if b then Closes made else t)
+if-alike : {S : Type 0} (b : Bool) (o : Outcome S) (t : Told S) (made : List Access) → StandAlike o t →
+    StandAlike (if b then Ends else o) (if b then Closes made else t)
 if-alike true o t made alike = tt
 if-alike false o t made alike = alike
 
-played-alike : {S : Type 0} (cog p : ℕ) (made : List Access) (course : Course S) (turns : List Turn) → StandAlike (played cog p course turns) (told cog made course (map answer_of turns))
+played-alike : {S : Type 0} (cog p : ℕ) (made : List Access) (course : Course S) (turns : List Turn) →
+    StandAlike (played cog p course turns) (told cog made course (map answer_of turns))
 played-alike cog p made (Finish s) turns = (refl, refl)
 played-alike cog p made (Stop reason) [] = refl
 played-alike cog p made (Stop reason) (turn ∷ left) = tt
@@ -20,7 +22,8 @@ played-alike cog p made (Ask access go) [] = refl
 played-alike cog p made (Ask access go) (turn ∷ left) =
     if-alike (is_last cog access) _ _ _ (played-alike cog (behind p access turn.key.clock) (made ++ access ∷ []) (go turn.answer) left)
 
-goes-alike : {S : Type 0} (e : Engine S) (clock : ℕ) (made : List Access) (s t : S) (turns : List Turn) (answers : List Answer) → s ≡ t → map answer_of turns ≡ answers → StandAlike (step e (Goes s clock turns)) (told_step e (Leaves made t answers))
+goes-alike : {S : Type 0} (e : Engine S) (clock : ℕ) (made : List Access) (s t : S) (turns : List Turn) (answers : List Answer) → s ≡ t →
+    map answer_of turns ≡ answers → StandAlike (step e (Goes s clock turns)) (told_step e (Leaves made t answers))
 goes-alike e clock made s t turns answers same left =
     subst (λ (xs : List Answer). StandAlike (step e (Goes s clock turns)) (told_step e (Leaves made t xs))) left
     (subst (λ x. StandAlike (step e (Goes s clock turns)) (told_step e (Leaves made x (map answer_of turns)))) same
@@ -42,5 +45,6 @@ unfolding after told_after
 after-alike e zero o t alike = alike
 after-alike e (suc n) o t alike = step-alike e (after e n o) (told_after e n t) (after-alike e n o t alike)
 
-pub readings-agree : {S : Type 0} (e : Engine S) (start count : ℕ) (first : Course S) (turns : List Turn) → StandAlike (replayed e start first count turns) (retold e first count (map answer_of turns))
+pub readings-agree : {S : Type 0} (e : Engine S) (start count : ℕ) (first : Course S) (turns : List Turn) →
+    StandAlike (replayed e start first count turns) (retold e first count (map answer_of turns))
 readings-agree e start count first turns = after-alike e count _ _ (played-alike e.cog start [] first turns)

@@ -1,7 +1,8 @@
 -- What the hub is after some turns, told by the last turn that matters (Propeller Manual v1.2, "Hub",
 -- COGINIT, COGSTOP, LOCKNEW, LOCKRET, LOCKSET, LOCKCLR; what they leave open is this project's profile).
 -- A past is a list of turns, the newest first.
-use Rattle.std.specs.Prelude.{ℕ, ◌+◌, ◌-◌, ◌*◌, ◌/◌, ◌%◌, ◌^◌, ◌==◌, nat_lt, if◌then◌else◌, Bool, true, false, not, List, [], ◌∷◌, Option, Some, None, slice_index}
+use Rattle.std.specs.Prelude.{ℕ, ◌+◌, ◌-◌, ◌*◌, ◌/◌, ◌%◌, ◌^◌, ◌==◌, nat_lt, if◌then◌else◌, Bool, true, false, not, List, [], ◌∷◌, Option, Some}
+use Rattle.std.specs.Prelude.{None, slice_index}
 use Rattle.std.specs.List.{find}
 use Rattle.p8_access.specs.declared.kinds.Width.{Width}
 use Rattle.p8_access.specs.declared.kinds.Width.TheVariants.{Byte, Word, Long}

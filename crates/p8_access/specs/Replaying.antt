@@ -1,5 +1,6 @@
 -- internal: what follows from a replay. No public contract cites it.
-use Rattle.std.proofs.Common.{◌≡◌, ◌⊎◌, inl, inr, ℕ, zero, suc, ◌+◌, ◌<◌, ◌≤◌, Bool, true, false, List, [], ◌∷◌, ◌++◌, refl, sym, ◌∙◌, ap, subst, arith, add_comm, add-one, if◌then◌else◌}
+use Rattle.std.proofs.Common.{◌≡◌, ◌⊎◌, inl, inr, ℕ, zero, suc, ◌+◌, ◌<◌, ◌≤◌, Bool, true, false, List, [], ◌∷◌, ◌++◌, refl, sym, ◌∙◌, ap, subst}
+use Rattle.std.proofs.Common.{arith, add_comm, add-one, if◌then◌else◌}
 use Rattle.std.proofs.lemmas.Grind.{common_steps}
 use Rattle.p8_access.specs.declared.kinds.Access.{Access}
 use Rattle.p8_access.specs.declared.kinds.Access.TheVariants.{PinsIn, OutSet, DirSet, Wait, Clock, Halt}
@@ -78,11 +79,13 @@ Moves (Goes s clock left) = Unit {0}
 Moves (Asks clock access) = ⊥
 Moves Ends = Unit {0}
 
-if-more : {S : Type 0} (b : Bool) (o p : Outcome S) (extra : List Turn) → (Moves o → p ≡ more o extra) → Moves (if b then Ends else o) → (if b then Ends else p) ≡ more (if b then Ends else o) extra
+if-more : {S : Type 0} (b : Bool) (o p : Outcome S) (extra : List Turn) → (Moves o → p ≡ more o extra) → Moves (if b then Ends else o) →
+    (if b then Ends else p) ≡ more (if b then Ends else o) extra
 if-more true o p extra same moves = refl
 if-more false o p extra same moves = same moves
 
-played-more : {S : Type 0} (cog p : ℕ) (course : Course S) (ts extra : List Turn) → Moves (played cog p course ts) → played cog p course (ts ++ extra) ≡ more (played cog p course ts) extra
+played-more : {S : Type 0} (cog p : ℕ) (course : Course S) (ts extra : List Turn) → Moves (played cog p course ts) →
+    played cog p course (ts ++ extra) ≡ more (played cog p course ts) extra
 played-more cog p (Finish s) ts extra moves = refl
 played-more cog p (Stop reason) [] extra moves = absurd moves
 played-more cog p (Stop reason) (turn ∷ ts) extra moves = refl
@@ -90,12 +93,14 @@ played-more cog p (Ask access go) [] extra moves = absurd moves
 played-more cog p (Ask access go) (turn ∷ ts) extra moves =
     if-more (is_last cog access) _ _ extra (played-more cog (behind p access turn.key.clock) (go turn.answer) ts extra) moves
 
-if-asks : {S : Type 0} (b : Bool) (o : Outcome S) (clock : ℕ) (access : Access) → (if b then Ends else o) ≡ Asks clock access → (b ≡ false) × (o ≡ Asks clock access)
+if-asks : {S : Type 0} (b : Bool) (o : Outcome S) (clock : ℕ) (access : Access) → (if b then Ends else o) ≡ Asks clock access →
+    (b ≡ false) × (o ≡ Asks clock access)
 if-asks true o clock access e = absurd (let x : Ends ≡ Asks clock access = e in cc)
 if-asks false o clock access e = (refl, e)
 
 -- with the turn of the access that it asks, a course comes to what is later than that turn
-pub played-then : {S : Type 0} (cog p : ℕ) (course : Course S) (ts : List Turn) (turn : Turn) (clock : ℕ) (access : Access) → IsOnTime access clock turn.key.clock → played cog p course ts ≡ Asks clock access → IsFrom (turn.key.clock + 1) (played cog p course (ts ++ turn ∷ []))
+pub played-then : {S : Type 0} (cog p : ℕ) (course : Course S) (ts : List Turn) (turn : Turn) (clock : ℕ) (access : Access) →
+    IsOnTime access clock turn.key.clock → played cog p course ts ≡ Asks clock access → IsFrom (turn.key.clock + 1) (played cog p course (ts ++ turn ∷ []))
 played-then cog p (Finish s) ts turn clock access on asks = absurd (let e : Goes s p ts ≡ Asks clock access = asks in cc)
 played-then cog p (Stop reason) [] turn clock access on asks = tt
 played-then cog p (Stop reason) (first ∷ ts) turn clock access on asks = tt
@@ -104,7 +109,8 @@ played-then cog p (Ask a go) [] turn clock access on asks =
     let what : a ≡ access = cc in
     if-from (turn.key.clock + 1) (is_last cog a) (played cog (behind p a turn.key.clock) (go turn.answer) [])
     (played-from cog (behind p a turn.key.clock) (turn.key.clock + 1) (go turn.answer)
-    (behind-later cog p a turn.key.clock (subst (λ (k : ℕ). IsOnTime a k turn.key.clock) (sym same) (subst (λ (x : Access). IsOnTime x clock turn.key.clock) (sym what) on))))
+    (behind-later cog p a turn.key.clock (subst (λ (k : ℕ). IsOnTime a k turn.key.clock) (sym same)
+    (subst (λ (x : Access). IsOnTime x clock turn.key.clock) (sym what) on))))
 played-then cog p (Ask a go) (first ∷ ts) turn clock access on asks =
     if-from (turn.key.clock + 1) (is_last cog a) _
     (played-then cog (behind p a first.key.clock) (go first.answer) ts turn clock access on (if-asks (is_last cog a) _ clock access asks).1)
@@ -177,7 +183,8 @@ after-more e (suc n) o extra moves =
 
 module _ {S : Type 0} (e : Engine S) (start : ℕ) (first : Course S) where
   -- where a turn comes, it is left for the course that has been reached
-  pub turn-kept : (k : ℕ) (ts : List Turn) (turn : Turn) (s : S) (clock : ℕ) (left : List Turn) → replayed e start first k ts ≡ Goes s clock left → replayed e start first k (ts ++ turn ∷ []) ≡ Goes s clock (left ++ turn ∷ [])
+  pub turn-kept : (k : ℕ) (ts : List Turn) (turn : Turn) (s : S) (clock : ℕ) (left : List Turn) → replayed e start first k ts ≡ Goes s clock left →
+      replayed e start first k (ts ++ turn ∷ []) ≡ Goes s clock (left ++ turn ∷ [])
   turn-kept k ts turn s clock left reached =
       let moves : Moves (replayed e start first k ts) = subst Moves (sym reached) tt in
       let begun : Moves (played e.cog start first ts) = after-moves e k (played e.cog start first ts) moves in
@@ -186,29 +193,34 @@ module _ {S : Type 0} (e : Engine S) (start : ℕ) (first : Course S) where
       ∙ ap (λ (o : Outcome S). more o (turn ∷ [])) reached
 
   -- and is taken by that course
-  pub turn-taken : (k : ℕ) (ts : List Turn) (turn : Turn) (s : S) (clock : ℕ) (left : List Turn) → replayed e start first k ts ≡ Goes s clock left → replayed e start first (k + 1) (ts ++ turn ∷ []) ≡ played e.cog (clock + e.cost s) (e.next s) (left ++ turn ∷ [])
+  pub turn-taken : (k : ℕ) (ts : List Turn) (turn : Turn) (s : S) (clock : ℕ) (left : List Turn) → replayed e start first k ts ≡ Goes s clock left →
+      replayed e start first (k + 1) (ts ++ turn ∷ []) ≡ played e.cog (clock + e.cost s) (e.next s) (left ++ turn ∷ [])
   turn-taken k ts turn s clock left reached =
       after-one e k _ ∙ ap (step e) (turn-kept k ts turn s clock left reached)
 
   -- what is asked at all is asked from what has been reached
-  pub asked-from : (ts : List Turn) (k n clock : ℕ) (access : Access) (o : Outcome S) → replayed e start first k ts ≡ o → replayed e start first n ts ≡ Asks clock access → after e n o ≡ Asks clock access
+  pub asked-from : (ts : List Turn) (k n clock : ℕ) (access : Access) (o : Outcome S) → replayed e start first k ts ≡ o →
+      replayed e start first n ts ≡ Asks clock access → after e n o ≡ Asks clock access
   asked-from ts k n clock access o reached asks =
       ap (after e n) (sym reached) ∙ sym (after-plus e n k _)
       ∙ ap (λ (count : ℕ). replayed e start first count ts) (add_comm n k)
       ∙ after-plus e k n _ ∙ ap (after e k) asks ∙ after-asks e k clock access
 
   -- and not before it
-  pub not-before : (ts : List Turn) (k : ℕ) (o : Outcome S) (until : ℕ) → replayed e start first k ts ≡ o → IsFrom until o → (n clock : ℕ) (access : Access) → replayed e start first n ts ≡ Asks clock access → until ≤ clock
+  pub not-before : (ts : List Turn) (k : ℕ) (o : Outcome S) (until : ℕ) → replayed e start first k ts ≡ o → IsFrom until o →
+      (n clock : ℕ) (access : Access) → replayed e start first n ts ≡ Asks clock access → until ≤ clock
   not-before ts k o until reached from n clock access asks =
       subst (IsFrom until) (asked-from ts k n clock access o reached asks) (after-from e n until o from)
 
-  pub begin-bounds : (ts : List Turn) (until : ℕ) → IsFrom until (played e.cog start first ts) → (n clock : ℕ) (access : Access) → replayed e start first n ts ≡ Asks clock access → until ≤ clock
+  pub begin-bounds : (ts : List Turn) (until : ℕ) → IsFrom until (played e.cog start first ts) → (n clock : ℕ) (access : Access) →
+      replayed e start first n ts ≡ Asks clock access → until ≤ clock
   unfolding after
   begin-bounds ts until from n clock access asks =
       not-before ts zero (played e.cog start first ts) until refl from n clock access asks
 
   -- one access is asked
-  pub one-asked : (ts : List Turn) (m n c d : ℕ) (a b : Access) → replayed e start first m ts ≡ Asks c a → replayed e start first n ts ≡ Asks d b → (c ≡ d) × (a ≡ b)
+  pub one-asked : (ts : List Turn) (m n c d : ℕ) (a b : Access) → replayed e start first m ts ≡ Asks c a → replayed e start first n ts ≡ Asks d b →
+      (c ≡ d) × (a ≡ b)
   one-asked ts m n c d a b one other =
       let same : Asks c a ≡ Asks d b = sym (after-asks e n c a) ∙ asked-from ts m n d b (Asks c a) one other in
       (cc, cc)
@@ -220,9 +232,12 @@ module _ {S : Type 0} (e : Engine S) (start : ℕ) (first : Course S) where
   -- a course that has been reached and asks this
   abbrev pub Asker : Outcome S → ℕ → Access → Type 0
   Asker o clock access =
-      (k : ℕ) × (at : S) × (begin : ℕ) × (left : List Turn) × (after e k o ≡ Goes at begin left) × (played e.cog (begin + e.cost at) (e.next at) left ≡ Asks clock access)
+      (k : ℕ) × (at : S) × (begin : ℕ) × (left : List Turn) × (after e k o ≡ Goes at begin left) ×
+      (played e.cog (begin + e.cost at) (e.next at) left ≡ Asks clock access)
 
-  asker-step : (n : ℕ) (from : Outcome S) (clock : ℕ) (access : Access) (o : Outcome S) → (after e n from ≡ Asks clock access → (from ≡ Asks clock access) ⊎ Asker from clock access) → after e n from ≡ o → step e o ≡ Asks clock access → (from ≡ Asks clock access) ⊎ Asker from clock access
+  asker-step : (n : ℕ) (from : Outcome S) (clock : ℕ) (access : Access) (o : Outcome S) →
+      (after e n from ≡ Asks clock access → (from ≡ Asks clock access) ⊎ Asker from clock access) → after e n from ≡ o →
+      step e o ≡ Asks clock access → (from ≡ Asks clock access) ⊎ Asker from clock access
   asker-step n from clock access (Goes at begin left) before reached asks = inr (n, at, begin, left, reached, asks)
   asker-step n from clock access (Asks c a) before reached asks = before (reached ∙ asks)
   asker-step n from clock access Ends before reached asks = absurd (let x : Ends ≡ Asks clock access = asks in cc)
@@ -233,7 +248,9 @@ module _ {S : Type 0} (e : Engine S) (start : ℕ) (first : Course S) where
   asker zero from clock access asks = inl asks
   asker (suc n) from clock access asks = asker-step n from clock access (after e n from) (asker n from clock access) refl asks
 
-  later-by : (ts : List Turn) (turn : Turn) (c d n : ℕ) (a b : Access) → IsOnTime a c turn.key.clock → (played e.cog start first ts ≡ Asks c a) ⊎ Asker (played e.cog start first ts) c a → replayed e start first n (ts ++ turn ∷ []) ≡ Asks d b → turn.key.clock + 1 ≤ d
+  later-by : (ts : List Turn) (turn : Turn) (c d n : ℕ) (a b : Access) → IsOnTime a c turn.key.clock →
+      (played e.cog start first ts ≡ Asks c a) ⊎ Asker (played e.cog start first ts) c a → replayed e start first n (ts ++ turn ∷ []) ≡ Asks d b →
+      turn.key.clock + 1 ≤ d
   later-by ts turn c d n a b on (inl begins) other =
       begin-bounds (ts ++ turn ∷ []) (turn.key.clock + 1) (played-then e.cog start first ts turn c a on begins) n d b other
   later-by ts turn c d n a b on (inr w) other =
@@ -243,7 +260,8 @@ module _ {S : Type 0} (e : Engine S) (start : ℕ) (first : Course S) where
       n d b other
 
   -- what is asked after a turn comes later than it
-  pub asked-later : (ts : List Turn) (turn : Turn) (m n c d : ℕ) (a b : Access) → replayed e start first m ts ≡ Asks c a → IsTurnAt c a turn → replayed e start first n (ts ++ turn ∷ []) ≡ Asks d b → turn.key.clock < d
+  pub asked-later : (ts : List Turn) (turn : Turn) (m n c d : ℕ) (a b : Access) → replayed e start first m ts ≡ Asks c a → IsTurnAt c a turn →
+      replayed e start first n (ts ++ turn ∷ []) ≡ Asks d b → turn.key.clock < d
   asked-later ts turn m n c d a b one at other =
       let le : turn.key.clock + 1 ≤ d = later-by ts turn c d n a b at.1 (asker m (played e.cog start first ts) c a one) other in
       omega (arith, le)

@@ -8,5 +8,6 @@ ghost use Rattle.p8_access.specs.Replays.{Engine, StandAlike, answer_of, replaye
 /// the one that sees only their answers ask the same access next, or leave the same, or are both over. As
 /// this holds for each beginning of the turns too, they ask the same accesses in the same order.
 pub fn readings_agree<S>()
-    ensures { (e : Engine S) (start count : ℕ) (first : Course S) (turns : List Turn) → StandAlike (replayed e start first count turns) (retold e first count (map answer_of turns)) }
+    ensures { (e : Engine S) (start count : ℕ) (first : Course S) (turns : List Turn) →
+        StandAlike (replayed e start first count turns) (retold e first count (map answer_of turns)) }
 {}

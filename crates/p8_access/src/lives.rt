@@ -4,7 +4,8 @@ ghost use Rattle.p8_access.specs.declared.kinds.Access.{Access};
 ghost use Rattle.p8_access.specs.declared.order.Turn.{Turn};
 ghost use Rattle.p8_access.specs.declared.lives.Next.TheVariants.{At, Quiet};
 ghost use Rattle.p8_access.specs.Proper.{Fits};
-ghost use Rattle.p8_access.specs.Lives.{Begun, first_turn_of, has_ended, Tells, IsMadeNext, announced_by, IsTurnAt, IsAnnounced, Spends, IsThorough, IsNear, IsWithin};
+ghost use Rattle.p8_access.specs.Lives.{Begun, first_turn_of, has_ended, Tells, IsMadeNext, announced_by, IsTurnAt, IsAnnounced, Spends, IsThorough};
+ghost use Rattle.p8_access.specs.Lives.{IsNear, IsWithin};
 
 use crate::kinds::Access;
 use crate::order::Turn;
@@ -73,15 +74,18 @@ pub trait Life {
 
         ensures forward { place self.old ≤ place self.new }
         ensures budget { place self.new ≤ place self.old + budget }
-        ensures placed { (b : Begun) (ts : List Turn) → stands self.old b ts → has_ended (cog self.old) ts ≡ false → (clock : ℕ) × begins b ts (place self.new) clock }
+        ensures placed { (b : Begun) (ts : List Turn) → stands self.old b ts → has_ended (cog self.old) ts ≡ false →
+            (clock : ℕ) × begins b ts (place self.new) clock }
         ensures thorough { (b : Begun) (ts : List Turn) → stands self.old b ts → IsThorough (begins b ts) (place self.new) until result }
 
         ensures spends { Spends (place self.old) (place self.new) (reached self.old) (reached self.new) (pace self.old) until budget result }
         ensures stride { reached self.new ≤ reached self.old + stride self.old * (place self.new - place self.old) }
         ensures near { IsNear (reach self.old) (reached self.new) result }
         // A call goes no further than its budget takes, and 16 clocks more, which is the time between two windows.
-        ensures far { (b : Begun) (ts : List Turn) → stands self.old b ts → has_ended (cog self.old) ts ≡ false → IsWithin (reached self.old + stride self.old * budget + 16) until result }
-        ensures quiet { (b : Begun) (ts : List Turn) → stands self.old b ts → has_ended (cog self.old) ts ≡ false → result ≡ Quiet → until ≤ reached self.new + reach self.old }
+        ensures far { (b : Begun) (ts : List Turn) → stands self.old b ts → has_ended (cog self.old) ts ≡ false →
+            IsWithin (reached self.old + stride self.old * budget + 16) until result }
+        ensures quiet { (b : Begun) (ts : List Turn) → stands self.old b ts → has_ended (cog self.old) ts ≡ false → result ≡ Quiet →
+            until ≤ reached self.new + reach self.old }
 
         ensures announced { announced self.new ≡ announced_by result }
         ensures same_pace { pace self.new ≡ pace self.old }
@@ -98,7 +102,8 @@ pub trait Life {
         requires fits { Fits turn.now.access turn.now.answer }
 
         ensures stands { (b : Begun) (ts : List Turn) → stands self.old b ts → stands self.new b (ts ++ turn.now ∷ []) }
-        ensures placed { (b : Begun) (ts : List Turn) → stands self.old b ts → has_ended (cog self.old) (ts ++ turn.now ∷ []) ≡ false → (clock : ℕ) × begins b (ts ++ turn.now ∷ []) (place self.new) clock }
+        ensures placed { (b : Begun) (ts : List Turn) → stands self.old b ts → has_ended (cog self.old) (ts ++ turn.now ∷ []) ≡ false →
+            (clock : ℕ) × begins b (ts ++ turn.now ∷ []) (place self.new) clock }
         ensures announced { announced self.new ≡ None }
         ensures reached { turn.now.key.clock ≤ reached self.new }
         ensures lead { reached self.new ≤ turn.now.key.clock + lead self.old }

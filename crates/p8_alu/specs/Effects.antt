@@ -1,7 +1,8 @@
 -- What each instruction of the opcodes 8 to 59 gives: its result and the flags C and Z, before the instruction's own bits say which of them are
 -- written. D is the destination's value, S the source's, C and Z are the flags before, and `next` is the address after the instruction's.
 -- Source of the results: the Propeller Manual v1.2, assembly chapter; of the flags: this project's profile.
-use Rattle.std.specs.Prelude.{ℕ, ◌+◌, ◌-◌, ◌*◌, ◌/◌, ◌%◌, ◌^◌, min, max, Bool, false, not, ◌&&◌, ◌||◌, ℤ, pos, ◌+ℤ◌, ◌-ℤ◌, neg_ℤ, unsigned_abs, int_lt, nat_lt, nat_le, ◌==◌, if◌then◌else◌, bit_and, bit_or, bit_xor, List, [], ◌∷◌}
+use Rattle.std.specs.Prelude.{ℕ, ◌+◌, ◌-◌, ◌*◌, ◌/◌, ◌%◌, ◌^◌, min, max, Bool, false, not, ◌&&◌, ◌||◌, ℤ, pos, ◌+ℤ◌, ◌-ℤ◌, neg_ℤ, unsigned_abs}
+use Rattle.std.specs.Prelude.{int_lt, nat_lt, nat_le, ◌==◌, if◌then◌else◌, bit_and, bit_or, bit_xor, List, [], ◌∷◌}
 use Rattle.std.specs.Int.{from_bool}
 use Rattle.p8_words.specs.Words.{word_of, signed_value, shifted_left, shifted_right, shifted_right_signed, rotated_left, rotated_right, reversed, has_odd_ones}
 use Rattle.p8_alu.specs.declared.effect.Effect.{Effect}

@@ -1,7 +1,8 @@
 // Operations on words that have no name in std.
 ghost use Rattle.std.specs.Prelude.{◌≡◌, ◌-◌, ◌<◌, nat_le, if◌then◌else◌, bit_and, bit_or};
 ghost use Rattle.p8_words.specs.Words.{shifted_right_signed, rotated_left, rotated_right};
-ghost use Rattle.p8_alu.specs.Effects.{is_set, shifted_right_filling, shifted_left_filling, with_bits, inverted, absolute, negated, difference, is_below_signed};
+ghost use Rattle.p8_alu.specs.Effects.{is_set, shifted_right_filling, shifted_left_filling, with_bits, inverted, absolute, negated, difference};
+ghost use Rattle.p8_alu.specs.Effects.{is_below_signed};
 
 #[inline]
 pub fn rotated_right(a: u32, n: u32) -> u32

@@ -14,7 +14,8 @@ use Rattle.p8_bcog.specs.Code.{fetched}
 use Rattle.p8_bcog.specs.Operands.{operand, pushed, replaced, tested, difference}
 use Rattle.p8_words.specs.Operators.{is_unary, unary_value, binary_value}
 use Rattle.p8_bcog.specs.Variables.{short_variable, variable, one_pin, some_pins, whole_register}
-use Rattle.p8_bcog.specs.Control.{jump, loop_begins, loop_ends, jump_if_zero, jump_unless_zero, drops, case_value, case_range, look_fails, lookup_value, lookdown_value, lookup_range, lookdown_range}
+use Rattle.p8_bcog.specs.Control.{jump, loop_begins, loop_ends, jump_if_zero, jump_unless_zero, drops, case_value, case_range, look_fails}
+use Rattle.p8_bcog.specs.Control.{lookup_value, lookdown_value, lookup_range, lookdown_range}
 use Rattle.p8_bcog.specs.Calls.{opens, call_own, call_object, call_indexed, return_result, return_value, abort_result, abort_value}
 use Rattle.p8_bcog.specs.Moves.{fill, move_elements, text_size, text_compare}
 use Rattle.p8_bcog.specs.Cogs.{tells, asks_word, start_method, pasm_start, waits_for_pins}

@@ -1,5 +1,6 @@
 -- The operands of a bytecode, and what is tested of them before anything else.
-use Rattle.std.specs.Prelude.{ℕ, ◌+◌, ◌-◌, ◌%◌, ◌^◌, nat_lt, [], ◌∷◌, ◌++◌, length, take, slice_index, if◌then◌else◌, Bool, int_le, ◌&&◌, ◌||◌, Option, Some, None}
+use Rattle.std.specs.Prelude.{ℕ, ◌+◌, ◌-◌, ◌%◌, ◌^◌, nat_lt, [], ◌∷◌, ◌++◌, length, take, slice_index, if◌then◌else◌, Bool, int_le, ◌&&◌, ◌||◌}
+use Rattle.std.specs.Prelude.{Option, Some, None}
 use Rattle.p8_access.specs.declared.kinds.Reason.{Reason}
 use Rattle.p8_access.specs.declared.kinds.Reason.TheVariants as Why
 use Rattle.p8_words.specs.Words.{signed_value}

@@ -1,7 +1,8 @@
 // The table of Spin's bytecodes.
 ghost use Rattle.std.specs.Prelude.{ℕ, ◌≡◌, ◌<◌, ◌≤◌, ◌%◌, true, length, IfSome, if◌then◌else◌};
 ghost use Rattle.p8_bcog.specs.Code.{code_of, fetched_in};
-ghost use Rattle.p8_bcog.specs.Bytecodes.{call_row, test_row, look_row, wait_row, move_row, cog_row, less_one_if, inverted_if, packed, constant, return_row, operator_row, row, bytecode, is_slow, clocks};
+ghost use Rattle.p8_bcog.specs.Bytecodes.{call_row, test_row, look_row, wait_row, move_row, cog_row, less_one_if, inverted_if, packed, constant};
+ghost use Rattle.p8_bcog.specs.Bytecodes.{return_row, operator_row, row, bytecode, is_slow, clocks};
 ghost use Rattle.p8_bcog.specs.Control.{jump};
 ghost use Rattle.p8_bcog.specs.Cogs.{pasm_start};
 ghost use Rattle.p8_bcog.specs.Laters.{comes};

@@ -2,7 +2,9 @@
 ghost use Rattle.std.specs.Prelude.{◌≡◌, ◌<◌, ◌≤◌, ◌-◌, length, take, drop};
 ghost use Rattle.p8_bcog.specs.Accesses.{stops};
 ghost use Rattle.p8_bcog.specs.Newest.{trapping};
-ghost use Rattle.p8_bcog.specs.Calls.{opens, marks_below, has_mark, frame_end, entered, given_to, gives, calls, calls_method, call_own, calls_object, call_object, call_indexed, returned, goes_back, returns, return_result, return_value, aborts, abort_result, abort_value};
+ghost use Rattle.p8_bcog.specs.Calls.{opens, marks_below, has_mark, frame_end, entered, given_to, gives, calls, calls_method, call_own, calls_object};
+ghost use Rattle.p8_bcog.specs.Calls.{call_object, call_indexed, returned, goes_back, returns, return_result, return_value, aborts, abort_result};
+ghost use Rattle.p8_bcog.specs.Calls.{abort_value};
 ghost use Rattle.p8_bcog.specs.Cogs.{start_method};
 ghost use Rattle.p8_bcog.specs.Laters.{comes};
 ghost use Rattle.p8_bcog.specs.Ready.{IsGood, CanGive};

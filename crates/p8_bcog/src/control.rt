@@ -1,6 +1,7 @@
 // Jumps, and the tests of loops, of CASE and of the LOOK functions.
 ghost use Rattle.std.specs.Prelude.{◌≡◌};
-ghost use Rattle.p8_bcog.specs.Control.{jump, loop_begins, loop_ends, jump_if_zero, jump_unless_zero, drops, case_value, case_range, look_fails, lookup_value, lookdown_value, toward, lookup_range, lookdown_range};
+ghost use Rattle.p8_bcog.specs.Control.{jump, loop_begins, loop_ends, jump_if_zero, jump_unless_zero, drops, case_value, case_range, look_fails};
+ghost use Rattle.p8_bcog.specs.Control.{lookup_value, lookdown_value, toward, lookup_range, lookdown_range};
 ghost use Rattle.p8_bcog.specs.Laters.{comes};
 ghost use Rattle.p8_bcog.specs.Ready.{IsGood};
 ghost use Rattle.p8_bcog.specs.Quick.{finishes};

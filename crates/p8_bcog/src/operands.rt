@@ -1,7 +1,8 @@
 // The operands of a bytecode.
 ghost use Rattle.std.specs.Prelude.{ℕ, Bool, ◌≡◌, ◌<◌, ◌≤◌, ◌+◌, ◌-◌, ◌%◌, ◌^◌, length, IfOk, IfErr, Some, None, if◌then◌else◌};
 ghost use Rattle.p8_bcog.specs.Ready.{HasRoomFor};
-ghost use Rattle.p8_bcog.specs.Operands.{left_by, operand, taken, pushed, replaced, refusal, jumped, jumped_if, is_at_most, is_between, sum_of, difference, distance};
+ghost use Rattle.p8_bcog.specs.Operands.{left_by, operand, taken, pushed, replaced, refusal, jumped, jumped_if, is_at_most, is_between, sum_of};
+ghost use Rattle.p8_bcog.specs.Operands.{difference, distance};
 
 use crate::stack::STACK_LONGS;
 use crate::state::State;

@@ -1,6 +1,7 @@
 // Variables: hub memory, and pins of a register.
 ghost use Rattle.std.specs.Prelude.{◌≡◌, ◌<◌, ◌≤◌, ◌%◌, true};
-ghost use Rattle.p8_bcog.specs.Places.{pins_in, ones, ordered, pins_of, mask_of, with_pins, register_value, register_access, writes_register, value_in, reduced, writes_place, extended, updated, leaves_old, left_of, stepped, uses, reads_place};
+ghost use Rattle.p8_bcog.specs.Places.{pins_in, ones, ordered, pins_of, mask_of, with_pins, register_value, register_access, writes_register};
+ghost use Rattle.p8_bcog.specs.Places.{value_in, reduced, writes_place, extended, updated, leaves_old, left_of, stepped, uses, reads_place};
 ghost use Rattle.p8_bcog.specs.Laters.{comes};
 ghost use Rattle.p8_bcog.specs.declared.place.Place.TheVariants.{Memory};
 ghost use Rattle.p8_bcog.specs.declared.step.Wanted.TheVariants.{Changed};

@@ -118,7 +118,8 @@ impl State {
     #[inline]
     fn quick_on(&mut self, byte: u8, operand: u8, low: u8) -> Option<Result<(), Reason>>
         requires { self.old.at + 3 < 2 ^ 16 }
-        ensures { MatchOption result (self.new ≡ self.old) (λ finished. (rest : List ℕ) → IsQuick (byte ∷ operand ∷ low ∷ rest) self.old (finishes finished self.new)) }
+        ensures { MatchOption result (self.new ≡ self.old)
+            (λ finished. (rest : List ℕ) → IsQuick (byte ∷ operand ∷ low ∷ rest) self.old (finishes finished self.new)) }
     {
         match byte {
             0x04 => {
@@ -175,7 +176,8 @@ impl State {
     #[inline]
     fn quick_variable_on(&mut self, byte: u8, operand: u8, stage: &mut Stage) -> Option<()>
         requires { self.old.at + 2 < 2 ^ 16 }
-        ensures does { MatchOption result (self.new ≡ self.old) (λ done. (rest : List ℕ) → IsQuick (byte ∷ operand ∷ rest) self.old (at_stage stage.new self.new)) }
+        ensures does { MatchOption result (self.new ≡ self.old)
+            (λ done. (rest : List ℕ) → IsQuick (byte ∷ operand ∷ rest) self.old (at_stage stage.new self.new)) }
         ensures under { IfSome result (λ done. is_under stage.new ≡ true) }
         ensures sound { IfSome result (λ done. IsSound stage.new self.new) }
     {
@@ -208,7 +210,9 @@ impl State {
     #[inline]
     pub fn quick(&mut self, code: &[u8]) -> Option<Result<(), Reason>>
         requires room { length code.now ≤ 32768 }
-        ensures { MatchOption result (self.new ≡ self.old) (λ finished. (memory : List ℕ) (cog : ℕ) → code.now ≡ code_of memory → (finishes finished self.new ≡ bytecode memory cog self.old) × (clocks memory self.old ≡ 32)) }
+        ensures { MatchOption result (self.new ≡ self.old)
+            (λ finished. (memory : List ℕ) (cog : ℕ) → code.now ≡ code_of memory →
+            (finishes finished self.new ≡ bytecode memory cog self.old) × (clocks memory self.old ≡ 32)) }
     {
         let at = usize::from(self.at);
         if at < 16 {
@@ -229,7 +233,9 @@ impl State {
     #[inline]
     pub fn quick_variable(&mut self, code: &[u8], stage: &mut Stage) -> Option<()>
         requires room { length code.now ≤ 32768 }
-        ensures does { MatchOption result (self.new ≡ self.old) (λ done. (memory : List ℕ) (cog : ℕ) → code.now ≡ code_of memory → (at_stage stage.new self.new ≡ bytecode memory cog self.old) × (clocks memory self.old ≡ 32)) }
+        ensures does { MatchOption result (self.new ≡ self.old)
+            (λ done. (memory : List ℕ) (cog : ℕ) → code.now ≡ code_of memory →
+            (at_stage stage.new self.new ≡ bytecode memory cog self.old) × (clocks memory self.old ≡ 32)) }
         ensures under { IfSome result (λ done. is_under stage.new ≡ true) }
         ensures sound { IfSome result (λ done. IsSound stage.new self.new) }
     {

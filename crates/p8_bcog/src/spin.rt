@@ -108,7 +108,8 @@ fn told(stage: &Stage, state: &State, cog: u8, clock: u64, until: u64) -> Next
     requires cog { cog < 8 }
     requires until { until < 2 ^ 62 }
     requires sound { IsSound stage.now state.now }
-    ensures stops { (reached : ℕ) → reached ≤ clock → clock ≤ reached + 544 → (stage.now ≡ Ready → reached ≡ clock) → Stops (standing cog stage.now state.now clock []) reached until result }
+    ensures stops { (reached : ℕ) → reached ≤ clock → clock ≤ reached + 544 → (stage.now ≡ Ready → reached ≡ clock) →
+        Stops (standing cog stage.now state.now clock []) reached until result }
     ensures made { IsMadeNext result }
     ensures near { result ≡ Quiet → (stage.now ≡ Over) ⊎ (until ≤ clock + 16) }
 {
@@ -142,7 +143,8 @@ impl SpinCog {
         requires cog { cog < 8 }
         requires begin { begin < 2 ^ 62 }
 
-        ensures stands { IfOk result (λ life. ⟦<SpinCog as Life>⟧.stands life (SpinBegun (record { memory = code; origin = origin; cog = cog; begin = begin })) []) }
+        ensures stands { IfOk result (λ life. ⟦<SpinCog as Life>⟧.stands life
+            (SpinBegun (record { memory = code; origin = origin; cog = cog; begin = begin })) []) }
         ensures place { IfOk result (λ life. ⟦<SpinCog as Life>⟧.place life ≡ 0) }
         ensures reached { IfOk result (λ life. ⟦<SpinCog as Life>⟧.reached life ≡ begin + 8192) }
         ensures pace { IfOk result (λ life. ⟦<SpinCog as Life>⟧.pace life ≡ 32) }
@@ -171,7 +173,8 @@ impl SpinCog {
         requires cog { cog < 8 }
         requires begin { begin < 2 ^ 62 }
 
-        ensures stands { IfOk result (λ life. ⟦<SpinCog as Life>⟧.stands life (SpinBegun (record { memory = code; origin = origin; cog = cog; begin = begin })) []) }
+        ensures stands { IfOk result (λ life. ⟦<SpinCog as Life>⟧.stands life
+            (SpinBegun (record { memory = code; origin = origin; cog = cog; begin = begin })) []) }
         ensures place { IfOk result (λ life. ⟦<SpinCog as Life>⟧.place life ≡ 0) }
         ensures reached { IfOk result (λ life. ⟦<SpinCog as Life>⟧.reached life ≡ begin + 8192) }
         ensures pace { IfOk result (λ life. ⟦<SpinCog as Life>⟧.pace life ≡ 32) }
@@ -226,7 +229,8 @@ impl SpinCog {
     /// bytecode that asks it. `None` where nothing is announced, and for the write with which a life enters its
     /// method, which no bytecode asks.
     pub fn counter(&self) -> Option<u16>
-        ensures counts { (b : Begun) (ts : List Turn) → ⟦<SpinCog as Life>⟧.stands self.now b ts → IsAnnouncing (⟦<SpinCog as Life>⟧.announced self.now) → IsCounter b ts result }
+        ensures counts { (b : Begun) (ts : List Turn) → ⟦<SpinCog as Life>⟧.stands self.now b ts →
+            IsAnnouncing (⟦<SpinCog as Life>⟧.announced self.now) → IsCounter b ts result }
         ensures none { ⟦<SpinCog as Life>⟧.announced self.now ≡ None → result ≡ None }
     {
         if !self.asking {

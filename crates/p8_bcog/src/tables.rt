@@ -1,6 +1,7 @@
 // The tables of a program.
 ghost use Rattle.std.specs.Prelude.{◌≡◌, ◌<◌, ◌≤◌, ◌+◌, ◌*◌, ◌%◌, ◌^◌, true};
-ghost use Rattle.p8_bcog.specs.Code.{byte_at, word_at, code_end, method_end, object_end, is_method, is_object, first_word, second_word, object_base, object_variables, method_at};
+ghost use Rattle.p8_bcog.specs.Code.{byte_at, word_at, code_end, method_end, object_end, is_method, is_object, first_word, second_word, object_base};
+ghost use Rattle.p8_bcog.specs.Code.{object_variables, method_at};
 
 use crate::step::Callee;
 

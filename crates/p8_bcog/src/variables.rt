@@ -1,6 +1,7 @@
 // The bytecodes of variables and registers.
 ghost use Rattle.std.specs.Prelude.{◌≡◌, ◌<◌, ◌≤◌, ◌%◌, ◌^◌, length};
-ghost use Rattle.p8_bcog.specs.Variables.{acts, short_address, short_variable, width_of, is_indexed, base_of, names, index_of, address_of, variable, acts_on_pins, register_of, one_pin, some_pins, all_pins, whole_register};
+ghost use Rattle.p8_bcog.specs.Variables.{acts, short_address, short_variable, width_of, is_indexed, base_of, names, index_of, address_of, variable};
+ghost use Rattle.p8_bcog.specs.Variables.{acts_on_pins, register_of, one_pin, some_pins, all_pins, whole_register};
 ghost use Rattle.p8_bcog.specs.Laters.{comes};
 ghost use Rattle.p8_bcog.specs.Ready.{IsGood, IsPlace};
 

@@ -1,6 +1,7 @@
 // Bytecodes written as a compiler writes them.
 ghost use Rattle.std.specs.Prelude.{◌≡◌, ℕ, ◌++◌, List, [], length, Some, if◌then◌else◌, OnOk};
-ghost use Rattle.p8_bytecode.specs.Spelling.{IsOp, FitsOperands, IsChange, IsPlace, offset_bytes, place_bytes, effect_bytes, operand_bytes, has_long_place, spelled};
+ghost use Rattle.p8_bytecode.specs.Spelling.{IsOp, FitsOperands, IsChange, IsPlace, offset_bytes, place_bytes, effect_bytes, operand_bytes};
+ghost use Rattle.p8_bytecode.specs.Spelling.{has_long_place, spelled};
 ghost use Rattle.p8_bytecode.specs.Reading.{has_base, op_in};
 
 use crate::op::Op;

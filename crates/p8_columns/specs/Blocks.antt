@@ -3,7 +3,8 @@ use Rattle.std.specs.Prelude.{◌≡◌, ℕ, suc, ◌≤◌, ◌<◌, ◌↔◌
 use Rattle.p8_tree.specs.declared.places.Place.{Place}
 use Rattle.p8_tree.specs.Expressions.{Tree, Items, no_items, ◌▸◌, single}
 use Rattle.p8_tree.specs.Statements as trees
-use Rattle.p8_tree.specs.Statements.{Course, Forever, After, statement, Action, Arm, arm, Otherwise, nothing_else, otherwise, Statements, no_statements, ◌▹◌, Arms, no_arms, ◌⊳◌}
+use Rattle.p8_tree.specs.Statements.{Course, Forever, After, statement, Action, Arm, arm, Otherwise, nothing_else, otherwise, Statements}
+use Rattle.p8_tree.specs.Statements.{no_statements, ◌▹◌, Arms, no_arms, ◌⊳◌}
 use Rattle.p8_columns.specs.Lines.{Plain, If, ElseIf, Else, Repeat, End, Case, Item, Other, Line, line, column, is_opener}
 use Rattle.p8_columns.specs.Columns.{innermost, AllFit}
 
@@ -31,18 +32,35 @@ condition negated test ss = arm (no_items ▸ single test) negated ss
 -- block stands at most at the opener's column.
 pub data Block : ℕ → Bound → Contents → List Line → Type 0 where
   no_lines : {e : ℕ} → Block e Anywhere (body no_statements) []
-  plain : {e : ℕ} {b : Bound} {ss : Statements} {ls : List Line} {p : Place} {a : Action} → Block e b (body ss) ls → May p.column b → e ≤ p.column → Block e Anywhere (body (ss ▹ statement p a)) (ls ++ line p (Plain a) ∷ [])
-  chain : {e : ℕ} {b b' : Bound} {ss inner : Statements} {ls ms : List Line} {p : Place} {negated : Bool} {test : Tree} → Block e b (body ss) ls → May p.column b → e ≤ p.column → Block (suc p.column) b' (body inner) ms → Block e (UpTo p.column) (body (ss ▹ statement p (trees.If (no_arms ⊳ condition negated test inner) nothing_else))) (ls ++ line p (If negated test) ∷ ms)
+  plain : {e : ℕ} {b : Bound} {ss : Statements} {ls : List Line} {p : Place} {a : Action} → Block e b (body ss) ls → May p.column b → e ≤ p.column →
+      Block e Anywhere (body (ss ▹ statement p a)) (ls ++ line p (Plain a) ∷ [])
+  chain : {e : ℕ} {b b' : Bound} {ss inner : Statements} {ls ms : List Line} {p : Place} {negated : Bool} {test : Tree} → Block e b (body ss) ls →
+      May p.column b → e ≤ p.column → Block (suc p.column) b' (body inner) ms →
+      Block e (UpTo p.column) (body (ss ▹ statement p (trees.If (no_arms ⊳ condition negated test inner) nothing_else))) (ls ++ line p (If negated test) ∷ ms)
   -- the chain before it stands at its own column
-  chain_on : {e : ℕ} {b' : Bound} {ss inner : Statements} {arms : Arms} {ls ms : List Line} {p : Place} {negated : Bool} {test : Tree} (q : Place) → Block e (UpTo q.column) (body (ss ▹ statement p (trees.If arms nothing_else))) ls → Block (suc q.column) b' (body inner) ms → Block e (UpTo q.column) (body (ss ▹ statement p (trees.If (arms ⊳ condition negated test inner) nothing_else))) (ls ++ line q (ElseIf negated test) ∷ ms)
-  chain_end : {e : ℕ} {b' : Bound} {ss inner : Statements} {arms : Arms} {ls ms : List Line} {p : Place} (q : Place) → Block e (UpTo q.column) (body (ss ▹ statement p (trees.If arms nothing_else))) ls → Block (suc q.column) b' (body inner) ms → Block e (UpTo q.column) (body (ss ▹ statement p (trees.If arms (otherwise inner)))) (ls ++ line q Else ∷ ms)
-  loop : {e : ℕ} {b b' : Bound} {ss inner : Statements} {ls ms : List Line} {p : Place} {course : Course} → Block e b (body ss) ls → May p.column b → e ≤ p.column → Block (suc p.column) b' (body inner) ms → Block e (UpTo p.column) (body (ss ▹ statement p (trees.Repeat course inner))) (ls ++ line p (Repeat course) ∷ ms)
+  chain_on : {e : ℕ} {b' : Bound} {ss inner : Statements} {arms : Arms} {ls ms : List Line} {p : Place} {negated : Bool} {test : Tree} (q : Place) →
+      Block e (UpTo q.column) (body (ss ▹ statement p (trees.If arms nothing_else))) ls → Block (suc q.column) b' (body inner) ms →
+      Block e (UpTo q.column) (body (ss ▹ statement p (trees.If (arms ⊳ condition negated test inner) nothing_else))) (ls ++ line q (ElseIf negated test) ∷ ms)
+  chain_end : {e : ℕ} {b' : Bound} {ss inner : Statements} {arms : Arms} {ls ms : List Line} {p : Place} (q : Place) →
+      Block e (UpTo q.column) (body (ss ▹ statement p (trees.If arms nothing_else))) ls → Block (suc q.column) b' (body inner) ms →
+      Block e (UpTo q.column) (body (ss ▹ statement p (trees.If arms (otherwise inner)))) (ls ++ line q Else ∷ ms)
+  loop : {e : ℕ} {b b' : Bound} {ss inner : Statements} {ls ms : List Line} {p : Place} {course : Course} → Block e b (body ss) ls → May p.column b →
+      e ≤ p.column → Block (suc p.column) b' (body inner) ms →
+      Block e (UpTo p.column) (body (ss ▹ statement p (trees.Repeat course inner))) (ls ++ line p (Repeat course) ∷ ms)
   -- the plain REPEAT before it stands at its own column; no line belongs to it any more
-  loop_end : {e : ℕ} {ss inner : Statements} {ls : List Line} {p : Place} (q : Place) (until : Bool) (test : Tree) → Block e (UpTo q.column) (body (ss ▹ statement p (trees.Repeat Forever inner))) ls → Block e Anywhere (body (ss ▹ statement p (trees.Repeat (After until test) inner))) (ls ++ line q (End until test) ∷ [])
-  cases : {e : ℕ} {b b' : Bound} {ss : Statements} {arms : Arms} {other : Otherwise} {ls ms : List Line} {p : Place} {value : Tree} → Block e b (body ss) ls → May p.column b → e ≤ p.column → Block (suc p.column) b' (choices arms other) ms → Block e (UpTo p.column) (body (ss ▹ statement p (trees.Case value arms other))) (ls ++ line p (Case value) ∷ ms)
+  loop_end : {e : ℕ} {ss inner : Statements} {ls : List Line} {p : Place} (q : Place) (until : Bool) (test : Tree) →
+      Block e (UpTo q.column) (body (ss ▹ statement p (trees.Repeat Forever inner))) ls →
+      Block e Anywhere (body (ss ▹ statement p (trees.Repeat (After until test) inner))) (ls ++ line q (End until test) ∷ [])
+  cases : {e : ℕ} {b b' : Bound} {ss : Statements} {arms : Arms} {other : Otherwise} {ls ms : List Line} {p : Place} {value : Tree} →
+      Block e b (body ss) ls → May p.column b → e ≤ p.column → Block (suc p.column) b' (choices arms other) ms →
+      Block e (UpTo p.column) (body (ss ▹ statement p (trees.Case value arms other))) (ls ++ line p (Case value) ∷ ms)
   no_cases : {e : ℕ} → Block e Anywhere (choices no_arms nothing_else) []
-  item : {e : ℕ} {b b' : Bound} {arms : Arms} {inner : Statements} {ls ms : List Line} {tests : Items} (p : Place) → Block e b (choices arms nothing_else) ls → May p.column b → e ≤ p.column → Block (suc p.column) b' (body inner) ms → Block e (UpTo p.column) (choices (arms ⊳ arm tests false inner) nothing_else) (ls ++ line p (Item tests) ∷ ms)
-  last_item : {e : ℕ} {b b' : Bound} {arms : Arms} {inner : Statements} {ls ms : List Line} (p : Place) → Block e b (choices arms nothing_else) ls → May p.column b → e ≤ p.column → Block (suc p.column) b' (body inner) ms → Block e (UpTo p.column) (choices arms (otherwise inner)) (ls ++ line p Other ∷ ms)
+  item : {e : ℕ} {b b' : Bound} {arms : Arms} {inner : Statements} {ls ms : List Line} {tests : Items} (p : Place) →
+      Block e b (choices arms nothing_else) ls → May p.column b → e ≤ p.column → Block (suc p.column) b' (body inner) ms →
+      Block e (UpTo p.column) (choices (arms ⊳ arm tests false inner) nothing_else) (ls ++ line p (Item tests) ∷ ms)
+  last_item : {e : ℕ} {b b' : Bound} {arms : Arms} {inner : Statements} {ls ms : List Line} (p : Place) → Block e b (choices arms nothing_else) ls →
+      May p.column b → e ≤ p.column → Block (suc p.column) b' (body inner) ms →
+      Block e (UpTo p.column) (choices arms (otherwise inner)) (ls ++ line p Other ∷ ms)
 
 -- the lines of a method are these statements
 abbrev pub AreStatements : Statements → List Line → Type 0
@@ -63,4 +81,6 @@ MethodIsInnermost = (b : Bound) (x : Contents) (lines : List Line) (c : ℕ) →
 -- In an opener's block a line may stand next exactly where that opener is its innermost open block:
 -- the last opener to the left of it such that every line since is to the right of the opener.
 abbrev pub OpenerIsInnermost : Type 0
-OpenerIsInnermost = (before : List Line) (opener : Line) (b : Bound) (x : Contents) (lines : List Line) (c : ℕ) → IsTrue (is_opener opener.kind) → Block (suc (column opener)) b x lines → (May c b × (column opener < c)) ↔ (innermost c (before ++ opener ∷ lines) ≡ Some (record { opener = opener; since = lines }))
+OpenerIsInnermost = (before : List Line) (opener : Line) (b : Bound) (x : Contents) (lines : List Line) (c : ℕ) → IsTrue (is_opener opener.kind) →
+    Block (suc (column opener)) b x lines → (May c b × (column opener < c)) ↔
+    (innermost c (before ++ opener ∷ lines) ≡ Some (record { opener = opener; since = lines }))

@@ -1,7 +1,8 @@
 -- Which blocks are open for a line, by columns alone, and which lines may stand there.
 use Rattle.std.specs.Prelude.{◌≡◌, ℕ, ◌⊎◌, Bool, ◌&&◌, nat_lt, nat_le, if◌then◌else◌, IsTrue, List, [], ◌∷◌, ◌++◌, Option, Some, None}
 use Rattle.std.specs.List.{list_all, last_or}
-use Rattle.p8_columns.specs.Lines.{Kind, Plain, If, ElseIf, Else, Repeat, End, Case, Item, Other, Line, column, is_opener, is_arm, is_else, is_plain_repeat, is_case, is_other}
+use Rattle.p8_columns.specs.Lines.{Kind, Plain, If, ElseIf, Else, Repeat, End, Case, Item, Other, Line, column, is_opener, is_arm, is_else}
+use Rattle.p8_columns.specs.Lines.{is_plain_repeat, is_case, is_other}
 use Rattle.p8_columns.specs.declared.room.Room.{Room}
 use Rattle.p8_columns.specs.declared.room.Room.TheVariants as room_case
 use Rattle.p8_columns.specs.declared.room.Chain.{Chain}

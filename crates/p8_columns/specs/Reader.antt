@@ -3,7 +3,8 @@ use Rattle.std.specs.Prelude.{ℕ, zero, suc, Bool, false, List, [], ◌∷◌, 
 use Rattle.p8_tree.specs.declared.places.Place.{Place}
 use Rattle.p8_tree.specs.Expressions.{Tree}
 use Rattle.p8_tree.specs.Statements as trees
-use Rattle.p8_tree.specs.Statements.{Course, Forever, After, Statement, statement, Arm, arm, Otherwise, nothing_else, otherwise, Statements, no_statements, ◌▹◌, Arms, no_arms, ◌⊳◌}
+use Rattle.p8_tree.specs.Statements.{Course, Forever, After, Statement, statement, Arm, arm, Otherwise, nothing_else, otherwise, Statements}
+use Rattle.p8_tree.specs.Statements.{no_statements, ◌▹◌, Arms, no_arms, ◌⊳◌}
 use Rattle.p8_columns.specs.Lines.{Kind, Plain, If, ElseIf, Else, Repeat, End, Case, Item, Other, Line, column, is_opener}
 use Rattle.p8_columns.specs.Blocks.{Contents, body, choices, condition}
 

@@ -70,7 +70,8 @@ fn with_choices(
     arms: Vec<Arm>,
     other: Option<Vec<Stmt>>,
 ) -> Result<Vec<Stmt>, AllocError>
-    ensures { IfOk result (λ v. statements_of v.items ≡ with_choices (statements_of statements.items) line.place (kind_of line.kind) (arms_of arms.items) (other_body other)) }
+    ensures { IfOk result (λ v. statements_of v.items ≡
+        with_choices (statements_of statements.items) line.place (kind_of line.kind) (arms_of arms.items) (other_body other)) }
 {
     let Line { place, kind } = line;
     match kind {

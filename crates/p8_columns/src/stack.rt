@@ -93,7 +93,8 @@ impl Stack {
 
     /// Takes the innermost block off, where its opener stands at a column or to the right of it.
     pub fn pop_right(&mut self, column: u64) -> Option<Frame>
-        ensures { MatchOption result ((is_right column (frames_in self.old) ≡ false) × (self.new ≡ self.old)) (λ f. (is_right column (frames_in self.old) ≡ true) × (self.old ≡ f ∷ self.new)) }
+        ensures { MatchOption result ((is_right column (frames_in self.old) ≡ false) × (self.new ≡ self.old))
+            (λ f. (is_right column (frames_in self.old) ≡ true) × (self.old ≡ f ∷ self.new)) }
     {
         if self.is_right(column) {
             self.frames.pop()

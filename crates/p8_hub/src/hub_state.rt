@@ -68,8 +68,10 @@ impl Hub {
 
         // Where the hub stands for a history it answers as that history does, and stands then for the
         // history with this turn.
-        ensures answer { (w : World) (past : List Turn) → IsHub w past self.old → (access.now ≡ PinsIn → levels ≡ level_at w.script key.clock) → result ≡ answer_to w past key access.now }
-        ensures stands { (w : World) (past : List Turn) → IsHub w past self.old → IsHub w ((record { key = key; access = access.now; answer = result }) ∷ past) self.new }
+        ensures answer { (w : World) (past : List Turn) → IsHub w past self.old → (access.now ≡ PinsIn → levels ≡ level_at w.script key.clock) →
+            result ≡ answer_to w past key access.now }
+        ensures stands { (w : World) (past : List Turn) → IsHub w past self.old →
+            IsHub w ((record { key = key; access = access.now; answer = result }) ∷ past) self.new }
 
         ensures fits { Fits access.now result }
     {
@@ -97,7 +99,8 @@ impl Hub {
         requires cog { key.cog < 8 }
         requires proper { IsProper access.now }
         requires done { Fits access.now Done }
-        ensures { (w : World) (past : List Turn) → IsHub w past self.old → IsHub w ((record { key = key; access = access.now; answer = Done }) ∷ past) self.new }
+        ensures { (w : World) (past : List Turn) → IsHub w past self.old →
+            IsHub w ((record { key = key; access = access.now; answer = Done }) ∷ past) self.new }
     {
         match *access {
             Access::Write {

@@ -154,7 +154,8 @@ impl Shelf for MemShelf {
 
         // The listed reads fail, and no others.
         ensures failed { (result ≡ Err ShelfError.Failed) ↔ IsTrue (is_next_listed self.old.fails self.old.calls) }
-        ensures missing { result ≡ Err ShelfError.Missing ↔ ((map.get self.old.files name.now ≡ None) × (is_next_listed self.old.fails self.old.calls ≡ false)) }
+        ensures missing { result ≡ Err ShelfError.Missing ↔
+            ((map.get self.old.files name.now ≡ None) × (is_next_listed self.old.fails self.old.calls ≡ false)) }
         ensures faults { self.new.faults ≡ counted_if (is_next_listed self.old.fails self.old.calls) self.old.faults }
         ensures calls { self.new.calls ≡ raised self.old.calls }
         ensures fails { self.new.fails ≡ self.old.fails }

@@ -30,7 +30,8 @@ impl Span {
         ensures not_before { IfSome result (λ clock. from ≤ clock) }
         ensures holds { IfSome result (λ clock. Holds test.now (pins_with dira outputs self.now.levels) clock) }
         ensures least { IfSome result (λ clock. (u : ℕ) → from ≤ u → Holds test.now (pins_with dira outputs self.now.levels) u → clock ≤ u) }
-        ensures none { IfNone result ((u : ℕ) → from ≤ u → u < 2 ^ 62 → IsBefore u self.now.end → Holds test.now (pins_with dira outputs self.now.levels) u → ⊥) }
+        ensures none { IfNone result ((u : ℕ) → from ≤ u → u < 2 ^ 62 → IsBefore u self.now.end →
+            Holds test.now (pins_with dira outputs self.now.levels) u → ⊥) }
     {
         let clock = first_with(from, pins(dira, outputs, self.levels), test)?;
         match self.end {

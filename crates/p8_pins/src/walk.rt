@@ -21,7 +21,8 @@ pub struct Walk<'a> {
 
 /// The turns from the first on that may change a register.
 fn from_first_touch<'a>(turns: &'a [Turn]) -> &'a [Turn]
-    ensures stands { (past : List TurnValue) (clock : ℕ) (registers : Registers) → StandFor past clock registers turns.now → StandFor past clock registers result.now }
+    ensures stands { (past : List TurnValue) (clock : ℕ) (registers : Registers) → StandFor past clock registers turns.now →
+        StandFor past clock registers result.now }
     ensures come { (clock : ℕ) → ComeFrom clock turns.now → ComeFrom clock result.now }
 {
     let mut rest = turns;
@@ -36,7 +37,8 @@ fn from_first_touch<'a>(turns: &'a [Turn]) -> &'a [Turn]
 
 /// Takes the turns that aren't later than a clock, and gives back those to come.
 fn take_by<'a>(registers: &mut Registers, turns: &'a [Turn], clock: u64) -> &'a [Turn]
-    ensures stands { (past : List TurnValue) (from : ℕ) → from ≤ clock → StandFor past from registers.old turns.now → StandFor past clock registers.new result.now }
+    ensures stands { (past : List TurnValue) (from : ℕ) → from ≤ clock → StandFor past from registers.old turns.now →
+        StandFor past clock registers.new result.now }
     ensures come { (from : ℕ) → ComeFrom from turns.now → ComeFrom (clock + 1) result.now }
 {
     let mut rest = turns;
@@ -87,7 +89,9 @@ impl<'a> Walk<'a> {
     /// Goes to the next clock at which the pins may change, if there is one.
     pub fn next(&mut self) -> Option<u64>
         ensures script { self.new.script.now ≡ self.old.script.now }
-        ensures at { (script : List Line) (past : List TurnValue) (clock : ℕ) → self.old.script.now ≡ script → IsAt script past clock self.old → MatchOption result (IsStill script past clock None) (λ next. (clock < next) × IsAt script past next self.new × IsStill script past clock (Some next)) }
+        ensures at { (script : List Line) (past : List TurnValue) (clock : ℕ) → self.old.script.now ≡ script → IsAt script past clock self.old →
+            MatchOption result (IsStill script past clock None)
+            (λ next. (clock < next) × IsAt script past next self.new × IsStill script past clock (Some next)) }
     {
         let turns = from_first_touch(self.turns);
         match earlier(self.span.end, turns) {

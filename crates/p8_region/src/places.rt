@@ -81,7 +81,8 @@ pub(crate) fn cut_off<T>(
     from: usize,
     _count: usize,
 ) -> (Start<T>, Places<T>)
-    requires { (start.ptr ≡ row.old.at) × (row.old.slots ≡ replicate (length row.old.slots) None) × (from ≤ length row.old.slots) × (_count * type_size T.row ≤ (length row.old.slots - from) * 8) × (type_align T.row ≤ 8) }
+    requires { (start.ptr ≡ row.old.at) × (row.old.slots ≡ replicate (length row.old.slots) None) × (from ≤ length row.old.slots) ×
+        (_count * type_size T.row ≤ (length row.old.slots - from) * 8) × (type_align T.row ≤ 8) }
     ensures { (row.new.at ≡ row.old.at) × (row.new.slots ≡ replicate from None) × (result.1.at ≡ result.0.ptr) × (result.1.slots ≡ replicate _count None) }
 {
     let ptr = unsafe { start.ptr.add(from) };

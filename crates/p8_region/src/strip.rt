@@ -1,5 +1,6 @@
 // A list that lies in a row of places and never outgrows it.
-ghost use Rattle.std.specs.Prelude.{◌≡◌, ◌<◌, ◌≤◌, ◌-◌, ◌++◌, ◌∷◌, [], None, length, replicate, slice_get, slice_set, IfOk, OnOk, IfErr, IsOk, IsTrue, false, ◌↔◌};
+ghost use Rattle.std.specs.Prelude.{◌≡◌, ◌<◌, ◌≤◌, ◌-◌, ◌++◌, ◌∷◌, [], None, length, replicate, slice_get, slice_set, IfOk, OnOk, IfErr, IsOk};
+ghost use Rattle.std.specs.Prelude.{IsTrue, false, ◌↔◌};
 ghost use Rattle.p8_region.specs.Bounded.{bounded};
 
 use crate::places::{Places, Start};

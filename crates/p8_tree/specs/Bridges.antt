@@ -21,9 +21,12 @@ use Rattle.p8_tree.specs.declared.statements.Arm as code_arm
 use Rattle.p8_tree.specs.declared.statements.Arm.{roll-Arm}
 use Rattle.p8_tree.specs.declared.statements.Loop as loop
 use Rattle.p8_tree.specs.Expressions.{node, Tree, Item, Trees, no_trees, ◌▷◌, Items, no_items, ◌▸◌, Index, no_index, index, Call, Strings, Built, Look}
-use Rattle.p8_tree.specs.Statements.{statement, Statement, Arm, Statements, no_statements, ◌▹◌, Arms, no_arms, ◌⊳◌, arm, Otherwise, nothing_else, otherwise, If, Case, Repeat}
+use Rattle.p8_tree.specs.Statements.{statement, Statement, Arm, Statements, no_statements, ◌▹◌, Arms, no_arms, ◌⊳◌, arm, Otherwise, nothing_else}
+use Rattle.p8_tree.specs.Statements.{otherwise, If, Case, Repeat}
 use Rattle.p8_tree.specs.Lists.{tree_list, fold_trees, item_list, fold_items, arm_list, fold_arms, statement_list, fold_statements}
-use Rattle.p8_tree.specs.Views.{form_of, call_of, index_of, tree_of, trees_from, trees_after, trees_of, items_from, items_after, items_of, item_of, action_of, arm_of, otherwise_of, statement_of, statements_from, statements_after, statements_of, arms_from, arms_after, arms_of, course_of}
+use Rattle.p8_tree.specs.Views.{form_of, call_of, index_of, tree_of, trees_from, trees_after, trees_of, items_from, items_after, items_of, item_of}
+use Rattle.p8_tree.specs.Views.{action_of, arm_of, otherwise_of, statement_of, statements_from, statements_after, statements_of, arms_from}
+use Rattle.p8_tree.specs.Views.{arms_after, arms_of, course_of}
 
 -- one more at the end
 pub trees_after-push : (before : Trees) (es : List expr.Expr) (e : expr.Expr) → trees_after before (es ++ e ∷ []) ≡ trees_after before es ▷ tree_of e
@@ -40,7 +43,8 @@ items_after-push before (y ∷ xs) x = items_after-push (before ▸ item_of y) x
 pub items_of-push : (xs : List item.Item) (x : item.Item) → items_of (xs ++ x ∷ []) ≡ items_of xs ▸ item_of x
 items_of-push xs x = items_after-push no_items xs x
 
-pub statements_after-push : (before : Statements) (ss : List stmt.Stmt) (s : stmt.Stmt) → statements_after before (ss ++ s ∷ []) ≡ statements_after before ss ▹ statement_of s
+pub statements_after-push : (before : Statements) (ss : List stmt.Stmt) (s : stmt.Stmt) →
+    statements_after before (ss ++ s ∷ []) ≡ statements_after before ss ▹ statement_of s
 statements_after-push before [] s = refl
 statements_after-push before (x ∷ ss) s = statements_after-push (before ▹ statement_of x) ss s
 
@@ -63,7 +67,8 @@ pub item_row_is : (before : Items) (n : _) (row : kind.Row_of-Item n) → items_
 item_row_is before n kind.end_of-Item = refl
 item_row_is before n (kind.more_of-Item {n = m} x rest) = item_row_is (before ▸ item_of x) m rest
 
-pub stmt_row_is : (before : Statements) (n : _) (row : stmt_kind.Row_of-Stmt n) → statements_from before row ≡ statements_after before (stmt_kind.items-the_row-Stmt n row)
+pub stmt_row_is : (before : Statements) (n : _) (row : stmt_kind.Row_of-Stmt n) →
+    statements_from before row ≡ statements_after before (stmt_kind.items-the_row-Stmt n row)
 stmt_row_is before n stmt_kind.end_of-Stmt = refl
 stmt_row_is before n (stmt_kind.more_of-Stmt {n = m} place k rest) = stmt_row_is (before ▹ statement place (action_of k)) m rest
 
@@ -119,12 +124,16 @@ strings_is v =
     let r = exprs_in (kind_case.Strings v) in
     ap Strings (expr_row_is no_trees r.0 r.1 ∙ ap trees_of (kind.items_hidden-the_row-Expr-0 v))
 
-pub look_is : (code : ℕ) (b : Box expr.Expr Global) (v : Vec item.Item Global) → form_of (kind_case.Look code b v) ≡ Look code (tree_of b.value) (items_of v.items)
+pub look_is : (code : ℕ) (b : Box expr.Expr Global) (v : Vec item.Item Global) →
+    form_of (kind_case.Look code b v) ≡ Look code (tree_of b.value) (items_of v.items)
 look_is code b v =
     let r = items_in (kind_case.Look code b v) in
     ap (Look code (tree_of b.value)) (item_row_is no_items r.0 r.1 ∙ ap items_of (kind.items_hidden-the_row-Item-1 v))
 
-pub call_is : (trap : Bool) (object : Option (List ℕ)) (i : Option (Box expr.Expr Global)) (name : List ℕ) (place : Place) (v : Vec expr.Expr Global) → call_of (roll-Call (record { trap = trap; object = object; index = i; method = name; method_place = place; args = v })) ≡ Call trap object (boxed_index i) name place (trees_of v.items)
+pub call_is : (trap : Bool) (object : Option (List ℕ)) (i : Option (Box expr.Expr Global)) (name : List ℕ) (place : Place)
+    (v : Vec expr.Expr Global) → call_of (roll-Call (record
+    { trap = trap; object = object; index = i; method = name; method_place = place; args = v })) ≡
+    Call trap object (boxed_index i) name place (trees_of v.items)
 unfolding roll-Call Carrier.roll
 call_is trap object i name place v =
     let r = arguments_in (roll-Call (record { trap = trap; object = object; index = i; method = name; method_place = place; args = v })) in
@@ -136,7 +145,8 @@ repeat_is course v =
     let r = stmts_in (stmt_case.Repeat course v) in
     ap (Repeat (course_of course)) (stmt_row_is no_statements r.0 r.1 ∙ ap statements_of (stmt_kind.items_hidden-the_row-Stmt-1 v))
 
-pub arm_is : (tests : List item.Item) (negated : Bool) (v : Vec stmt.Stmt Global) → arm_of (roll-Arm (record { tests = tests; negated = negated; body = v })) ≡ arm (items_of tests) negated (statements_of v.items)
+pub arm_is : (tests : List item.Item) (negated : Bool) (v : Vec stmt.Stmt Global) →
+    arm_of (roll-Arm (record { tests = tests; negated = negated; body = v })) ≡ arm (items_of tests) negated (statements_of v.items)
 unfolding roll-Arm Carrier.roll
 arm_is tests negated v =
     let r = body_in (roll-Arm (record { tests = tests; negated = negated; body = v })) in
@@ -159,7 +169,8 @@ if_is v o =
     ap (λ x. If (arms_from no_arms r.1) x) (otherwise_is o)
     ∙ ap (λ x. If x (other_body o)) (arm_row_is no_arms r.0 r.1 ∙ ap arms_of (stmt_kind.items_hidden-the_row-Arm-0 v))
 
-pub case_is : (e : expr.Expr) (v : Vec code_arm.Arm Global) (o : Option (Vec stmt.Stmt Global)) → action_of (stmt_case.Case e v o) ≡ Case (tree_of e) (arms_of v.items) (other_body o)
+pub case_is : (e : expr.Expr) (v : Vec code_arm.Arm Global) (o : Option (Vec stmt.Stmt Global)) →
+    action_of (stmt_case.Case e v o) ≡ Case (tree_of e) (arms_of v.items) (other_body o)
 case_is e v o =
     let r = arms_in (stmt_case.Case e v o) in
     ap (λ x. Case (tree_of e) (arms_from no_arms r.1) x) (otherwise_is o)
@@ -176,7 +187,8 @@ tree_list_after before (e ∷ es) = tree_list_after (before ▷ tree_of e) es �
 pub tree_list_of : (es : List expr.Expr) → tree_list (trees_of es) ≡ map tree_of es
 tree_list_of es = tree_list_after no_trees es
 
-pub fold_trees_after : {X : Type 0} (f : X → Tree → X) (a : X) (before : Trees) (es : List expr.Expr) → fold_trees f a (trees_after before es) ≡ fold (λ b e. f b (tree_of e)) (fold_trees f a before) es
+pub fold_trees_after : {X : Type 0} (f : X → Tree → X) (a : X) (before : Trees) (es : List expr.Expr) →
+    fold_trees f a (trees_after before es) ≡ fold (λ b e. f b (tree_of e)) (fold_trees f a before) es
 fold_trees_after f a before [] = refl
 fold_trees_after f a before (e ∷ es) = fold_trees_after f a (before ▷ tree_of e) es
 
@@ -190,7 +202,8 @@ item_list_after before (x ∷ xs) = item_list_after (before ▸ item_of x) xs �
 pub item_list_of : (xs : List item.Item) → item_list (items_of xs) ≡ map item_of xs
 item_list_of xs = item_list_after no_items xs
 
-pub fold_items_after : {X : Type 0} (f : X → Item → X) (a : X) (before : Items) (xs : List item.Item) → fold_items f a (items_after before xs) ≡ fold (λ b x. f b (item_of x)) (fold_items f a before) xs
+pub fold_items_after : {X : Type 0} (f : X → Item → X) (a : X) (before : Items) (xs : List item.Item) →
+    fold_items f a (items_after before xs) ≡ fold (λ b x. f b (item_of x)) (fold_items f a before) xs
 fold_items_after f a before [] = refl
 fold_items_after f a before (x ∷ xs) = fold_items_after f a (before ▸ item_of x) xs
 
@@ -204,23 +217,28 @@ arm_list_after before (x ∷ xs) = arm_list_after (before ⊳ arm_of x) xs ∙ a
 pub arm_list_of : (xs : List code_arm.Arm) → arm_list (arms_of xs) ≡ map arm_of xs
 arm_list_of xs = arm_list_after no_arms xs
 
-pub fold_arms_after : {X : Type 0} (f : X → Arm → X) (a : X) (before : Arms) (xs : List code_arm.Arm) → fold_arms f a (arms_after before xs) ≡ fold (λ b x. f b (arm_of x)) (fold_arms f a before) xs
+pub fold_arms_after : {X : Type 0} (f : X → Arm → X) (a : X) (before : Arms) (xs : List code_arm.Arm) →
+    fold_arms f a (arms_after before xs) ≡ fold (λ b x. f b (arm_of x)) (fold_arms f a before) xs
 fold_arms_after f a before [] = refl
 fold_arms_after f a before (x ∷ xs) = fold_arms_after f a (before ⊳ arm_of x) xs
 
 pub fold_arms_of : {X : Type 0} (f : X → Arm → X) (a : X) (xs : List code_arm.Arm) → fold_arms f a (arms_of xs) ≡ fold (λ b x. f b (arm_of x)) a xs
 fold_arms_of f a xs = fold_arms_after f a no_arms xs
 
-pub statement_list_after : (before : Statements) (ss : List stmt.Stmt) → statement_list (statements_after before ss) ≡ statement_list before ++ map statement_of ss
+pub statement_list_after : (before : Statements) (ss : List stmt.Stmt) →
+    statement_list (statements_after before ss) ≡ statement_list before ++ map statement_of ss
 statement_list_after before [] = sym (append-nil (statement_list before))
-statement_list_after before (s ∷ ss) = statement_list_after (before ▹ statement_of s) ss ∙ append_assoc (statement_list before) (statement_of s ∷ []) (map statement_of ss)
+statement_list_after before (s ∷ ss) = statement_list_after (before ▹ statement_of s) ss ∙ append_assoc (statement_list before) (statement_of s ∷ [])
+    (map statement_of ss)
 
 pub statement_list_of : (ss : List stmt.Stmt) → statement_list (statements_of ss) ≡ map statement_of ss
 statement_list_of ss = statement_list_after no_statements ss
 
-pub fold_statements_after : {X : Type 0} (f : X → Statement → X) (a : X) (before : Statements) (ss : List stmt.Stmt) → fold_statements f a (statements_after before ss) ≡ fold (λ b s. f b (statement_of s)) (fold_statements f a before) ss
+pub fold_statements_after : {X : Type 0} (f : X → Statement → X) (a : X) (before : Statements) (ss : List stmt.Stmt) →
+    fold_statements f a (statements_after before ss) ≡ fold (λ b s. f b (statement_of s)) (fold_statements f a before) ss
 fold_statements_after f a before [] = refl
 fold_statements_after f a before (s ∷ ss) = fold_statements_after f a (before ▹ statement_of s) ss
 
-pub fold_statements_of : {X : Type 0} (f : X → Statement → X) (a : X) (ss : List stmt.Stmt) → fold_statements f a (statements_of ss) ≡ fold (λ b s. f b (statement_of s)) a ss
+pub fold_statements_of : {X : Type 0} (f : X → Statement → X) (a : X) (ss : List stmt.Stmt) →
+    fold_statements f a (statements_of ss) ≡ fold (λ b s. f b (statement_of s)) a ss
 fold_statements_of f a ss = fold_statements_after f a no_statements ss

@@ -1,7 +1,8 @@
 -- Where NEXT and QUIT stand, and how deep blocks of statements stand in one another (Propeller Manual v1.2, "NEXT" and
 -- "QUIT").
 use Rattle.std.specs.Prelude.{ℕ, suc, max, Bool, true, ◌&&◌}
-use Rattle.p8_tree.specs.Statements.{Statement, statement, Action, Do, If, Case, Repeat, Next, Quit, Return, Abort, Arm, arm, Otherwise, nothing_else, otherwise, Statements, no_statements, ◌▹◌, Arms, no_arms, ◌⊳◌}
+use Rattle.p8_tree.specs.Statements.{Statement, statement, Action, Do, If, Case, Repeat, Next, Quit, Return, Abort, Arm, arm, Otherwise}
+use Rattle.p8_tree.specs.Statements.{nothing_else, otherwise, Statements, no_statements, ◌▹◌, Arms, no_arms, ◌⊳◌}
 
 -- each NEXT and each QUIT stands in a REPEAT, where the statements themselves stand in one or not
 abbrev mutual

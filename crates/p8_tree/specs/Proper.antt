@@ -2,10 +2,14 @@
 -- are names, instructions with their operands, heights and depths within the limits.
 --
 -- `dat` says whether an expression stands in DAT, where `$`, local labels and all registers may stand.
-use Rattle.std.specs.Prelude.{◌≡◌, ℕ, ◌^◌, ◌<◌, ◌≤◌, Bool, true, false, nat_le, ◌==◌, ◌&&◌, ◌||◌, not, IsTrue, List, [], ◌∷◌, length, Option, Some, None, codes, All}
+use Rattle.std.specs.Prelude.{◌≡◌, ℕ, ◌^◌, ◌<◌, ◌≤◌, Bool, true, false, nat_le, ◌==◌, ◌&&◌, ◌||◌, not, IsTrue, List, [], ◌∷◌, length, Option, Some}
+use Rattle.std.specs.Prelude.{None, codes, All}
 use Rattle.p8_tree.specs.declared.places.Place.{Place}
-use Rattle.p8_tree.specs.Expressions.{Tree, node, Form, Number, Str, Strings, Here, Var, Call, Unary, Binary, Assign, Change, Address, ObjectAddress, ObjConst, Built, Look, Variable, Named, Part, Memory, Register, Index, no_index, index, Bits, whole, bits, Item, single, range, Trees, no_trees, ◌▷◌, Items, no_items, ◌▸◌}
-use Rattle.p8_tree.specs.Statements.{Course, Forever, Count, Before, After, From, Statement, statement, Action, Do, If, Case, Repeat, Next, Quit, Return, Abort, Arm, arm, Otherwise, nothing_else, otherwise, Statements, no_statements, ◌▹◌, Arms, no_arms, ◌⊳◌}
+use Rattle.p8_tree.specs.Expressions.{Tree, node, Form, Number, Str, Strings, Here, Var, Call, Unary, Binary, Assign, Change, Address, ObjectAddress}
+use Rattle.p8_tree.specs.Expressions.{ObjConst, Built, Look, Variable, Named, Part, Memory, Register, Index, no_index, index, Bits, whole, bits}
+use Rattle.p8_tree.specs.Expressions.{Item, single, range, Trees, no_trees, ◌▷◌, Items, no_items, ◌▸◌}
+use Rattle.p8_tree.specs.Statements.{Course, Forever, Count, Before, After, From, Statement, statement, Action, Do, If, Case, Repeat, Next, Quit}
+use Rattle.p8_tree.specs.Statements.{Return, Abort, Arm, arm, Otherwise, nothing_else, otherwise, Statements, no_statements, ◌▹◌, Arms, no_arms, ◌⊳◌}
 use Rattle.p8_tree.specs.Sources as sources
 use Rattle.p8_tree.specs.Sources.{Constant, Declared, Child, MethodTree, Datum, Instruction, Contents, Line, BlockTree, Source}
 use Rattle.p8_tree.specs.Heights.{height}
@@ -212,7 +216,8 @@ IsProperCourse Forever = Unit {0}
 IsProperCourse (Count e) = IsProperExpression false e
 IsProperCourse (Before until e) = IsProperExpression false e
 IsProperCourse (After until e) = IsProperExpression false e
-IsProperCourse (From n a b step place) = IsVariableName false n × IsProperExpression false a × IsProperExpression false b × IfThere (IsProperExpression false) step
+IsProperCourse (From n a b step place) = IsVariableName false n × IsProperExpression false a × IsProperExpression false b ×
+    IfThere (IsProperExpression false) step
 
 -- an arm of an IF chain has one test, a value
 abbrev pub IsCondition : Items → Type 0
@@ -269,8 +274,10 @@ IsSize z = IsTrue (is_size z)
 -- `#e`, or a name with a value, a step or neither
 pub data IsProperConstant : Constant → Type 0 where
   setting : {p : Place} {e : Tree} → IsProperExpression false e → IsProperConstant (record { place = p; name = None; value = Some e; step = None; sets = true })
-  with_value : {p : Place} {n : List ℕ} {e : Tree} → IsName n → IsProperExpression false e → IsProperConstant (record { place = p; name = Some n; value = Some e; step = None; sets = false })
-  counted : {p : Place} {n : List ℕ} {step : Option Tree} → IsName n → IfThere (IsProperExpression false) step → IsProperConstant (record { place = p; name = Some n; value = None; step = step; sets = false })
+  with_value : {p : Place} {n : List ℕ} {e : Tree} → IsName n → IsProperExpression false e →
+      IsProperConstant (record { place = p; name = Some n; value = Some e; step = None; sets = false })
+  counted : {p : Place} {n : List ℕ} {step : Option Tree} → IsName n → IfThere (IsProperExpression false) step →
+      IsProperConstant (record { place = p; name = Some n; value = None; step = step; sets = false })
 
 pub record IsProperDeclared (x : Declared) : Type 0 where
   pub size : IsSize x.size
@@ -313,8 +320,10 @@ IsLabelAlone e = ⊥
 
 -- The operands that the word of an instruction takes, and the effects that it may have: WZ is 1, WC 2, WR 4 and NR 8.
 pub data HasOperands (x : Instruction) : Type 0 where
-  two : IsTrue (is_among two_operands x.word) → IsThere (IsProperExpression true) x.dest → IsThere (IsProperExpression true) x.source → x.effects < 16 → HasOperands x
-  memory : IsTrue (is_among on_memory x.word) → IsThere (IsProperExpression true) x.dest → IsThere (IsProperExpression true) x.source → x.effects < 4 → HasOperands x
+  two : IsTrue (is_among two_operands x.word) → IsThere (IsProperExpression true) x.dest → IsThere (IsProperExpression true) x.source →
+      x.effects < 16 → HasOperands x
+  memory : IsTrue (is_among on_memory x.word) → IsThere (IsProperExpression true) x.dest → IsThere (IsProperExpression true) x.source →
+      x.effects < 4 → HasOperands x
   one : IsTrue (is_among one_operand x.word) → IsThere (IsProperExpression true) x.dest → x.source ≡ None → x.immediate ≡ false → x.effects < 16 → HasOperands x
   jump : x.word ≡ codes "JMP" → x.dest ≡ None → IsThere (IsProperExpression true) x.source → x.effects < 16 → HasOperands x
   call : x.word ≡ codes "CALL" → x.dest ≡ None → IsThere IsLabelAlone x.source → x.immediate ≡ true → x.effects < 16 → HasOperands x

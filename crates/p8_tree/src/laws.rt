@@ -26,5 +26,6 @@ pub fn earlier_is_first<S: FaultSet, T: FaultSet>()
 /// Law: the first fault of a file in a phase is the first refusal of the project where no earlier phase has one, and in this
 /// phase no earlier file.
 pub fn first_of_file_is_first<S: RefusalSet>()
-    ensures { (phase file : ℕ) (f : Fault) → ((a : PhaseFault) → S.IsRefused a → ¬ ComesEarlier phase file a) → IsFirstFault (in_file S.IsRefused phase file) f → IsFirstRefusal S.IsRefused (record { phase = phase; file = file; fault = f }) }
+    ensures { (phase file : ℕ) (f : Fault) → ((a : PhaseFault) → S.IsRefused a → ¬ ComesEarlier phase file a) →
+        IsFirstFault (in_file S.IsRefused phase file) f → IsFirstRefusal S.IsRefused (record { phase = phase; file = file; fault = f }) }
 {}

@@ -1,8 +1,10 @@
 -- The values of operators: 32-bit words, by formulas over whole numbers, each reduced mod 2 ^ 32 before the next operation.
 -- An operator is numbered by the bytecode that carries it out. Sources: the Propeller Manual v1.2, "Operators" of the Spin
 -- chapter; the results of a zero divisor and of `><` are this project's profile.
-use Rattle.std.specs.Prelude.{ℕ, ◌-◌, ◌*◌, ◌%◌, ◌^◌, Bool, not, ◌&&◌, ◌||◌, pos, neg_ℤ, ◌-ℤ◌, unsigned_abs, int_lt, ◌==◌, if◌then◌else◌, bit_and, bit_or, bit_xor, List, [], ◌∷◌, Option, Some, None}
-use Rattle.p8_words.specs.Words.{word_of, signed_value, wrapped_sum, high_product, signed_quotient, signed_remainder, square_root, shifted_left, shifted_right, shifted_right_signed, rotated_left, rotated_right, reversed, highest_one, power_of_two}
+use Rattle.std.specs.Prelude.{ℕ, ◌-◌, ◌*◌, ◌%◌, ◌^◌, Bool, not, ◌&&◌, ◌||◌, pos, neg_ℤ, ◌-ℤ◌, unsigned_abs, int_lt, ◌==◌, if◌then◌else◌, bit_and}
+use Rattle.std.specs.Prelude.{bit_or, bit_xor, List, [], ◌∷◌, Option, Some, None}
+use Rattle.p8_words.specs.Words.{word_of, signed_value, wrapped_sum, high_product, signed_quotient, signed_remainder, square_root, shifted_left}
+use Rattle.p8_words.specs.Words.{shifted_right, shifted_right_signed, rotated_left, rotated_right, reversed, highest_one, power_of_two}
 
 -- true is -1 and false 0
 abbrev pub truth : Bool → ℕ

@@ -1,7 +1,8 @@
 -- 32-bit words: a word is a whole number from 0 to 2 ^ 32 - 1. Each function here is a formula on whole numbers, reduced mod 2 ^ 32 at its end.
 -- Sources: the Propeller Manual v1.2, "Operators" of the Spin chapter and the instructions of the assembly chapter, and this project's profile
 -- for a divisor of 0.
-use Rattle.std.specs.Prelude.{ℕ, zero, suc, ◌+◌, ◌-◌, ◌*◌, ◌/◌, ◌%◌, ◌^◌, Bool, List, [], ◌∷◌, reverse, sum, ℤ, pos, negsuc, ◌-ℤ◌, ◌*ℤ◌, int_div, int_rem, nat_lt, nat_le, ◌==◌, if◌then◌else◌}
+use Rattle.std.specs.Prelude.{ℕ, zero, suc, ◌+◌, ◌-◌, ◌*◌, ◌/◌, ◌%◌, ◌^◌, Bool, List, [], ◌∷◌, reverse, sum, ℤ, pos, negsuc, ◌-ℤ◌, ◌*ℤ◌, int_div}
+use Rattle.std.specs.Prelude.{int_rem, nat_lt, nat_le, ◌==◌, if◌then◌else◌}
 use Rattle.std.specs.Int.{int_div_euclid}
 
 -- ---- whole numbers and words

@@ -1,6 +1,7 @@
 // Functions on 32-bit words, as Spin's operators and the cog's instructions use them.
 ghost use Rattle.std.specs.Prelude.{◌≡◌, ◌+◌, ◌-◌, ◌*◌, ◌^◌, ◌<◌, ◌≤◌, ◌↔◌, IsTrue};
-ghost use Rattle.p8_words.specs.Words.{signed_value, wrapped_sum, high_product, signed_quotient, signed_remainder, square_root, reversed, has_odd_ones, highest_one, power_of_two};
+ghost use Rattle.p8_words.specs.Words.{signed_value, wrapped_sum, high_product, signed_quotient, signed_remainder, square_root, reversed};
+ghost use Rattle.p8_words.specs.Words.{has_odd_ones, highest_one, power_of_two};
 
 /// The sum of two words, reduced mod 2^32.
 #[inline]
