@@ -107,6 +107,11 @@ def boot_of(image):
     return bytes(memory)
 
 
+def binary_of(memory):
+    """What a `.binary` file has of a good `.eeprom` file."""
+    return mend_sum(memory[: word(memory, 8)], False)
+
+
 def mend_sum(content, is_eeprom):
     """The file with the checksum that its bytes ask for, where it is long enough to have one."""
     if len(content) < 6:
@@ -450,7 +455,7 @@ TURNS, KEPT, PAGED = number(0, 1_000_000), number(0, 40_000), number(0, 20_000)
 PIN, WIDTH, BITS, START, SEED = number(0, 31), number(20, 400), number(2, 10_000), number(1, 100_000_000), number(0, 0xFFFFFFFF)
 RUN = {"--pins": anything, "--turns": TURNS}
 COMMANDS = {
-    "build": ([anything], {}), "list": ([anything], {}), "raw": ([anything, CLOCKS], {**RUN, "--dump": is_dump}),
+    "build": ([anything], {}), "list": ([anything], {}), "code": ([anything], {}), "raw": ([anything, CLOCKS], {**RUN, "--dump": is_dump}),
     "run": ([anything, CLOCKS], {**RUN, "--dump": is_dump, "--alone": None}),
     "save": ([anything, CLOCKS], {**RUN, "--turns": KEPT, "--raw": None}),
     "check": ([anything, anything], {"--pins": anything, "--raw": None}),
@@ -487,7 +492,7 @@ def agree(command, found):
 
 
 def has_short(command, operands):
-    return command in ("build", "list") or command == "run" and not is_image(operands[0])
+    return command in ("build", "list") or not is_image(operands[0])
 
 
 class Words:
@@ -534,7 +539,7 @@ def is_command(words, knows_short):
     if command not in COMMANDS:
         return False
     operands, options = COMMANDS[command]
-    if knows_short and command in ("build", "list", "run"):
+    if knows_short and command in ("build", "list", "code", "run"):
         options = {**options, "--short": None}
     found = Words(options)
     found.take(rest)

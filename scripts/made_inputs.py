@@ -474,7 +474,7 @@ def script(random):
     return damage_bytes(random, text.encode()) if random.random() < 0.3 else text.encode()
 
 
-COMMANDS = "build list raw run save check serial type wave convert make help map explain hint plot view page".split()
+COMMANDS = "build list code raw run save check serial type wave convert make help map explain hint plot view page".split()
 ODD_WORDS = [
     # The last of these is a byte that isn't UTF-8.
     *("", " 1", "-1", "+1", "1e3", "0x10", "99999999999", "-", "--", "a\nb", "é", "\udcff"),

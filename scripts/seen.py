@@ -163,7 +163,7 @@ class Cogs:
 
     def __init__(self):
         self.outputs, self.directions, self.loading = [0] * 8, [0] * 8, [0] * 8
-        self.doings, self.last = [("starts", 0), *[("idle", 0)] * 7], [0] * 8
+        self.doings, self.last, self.is_pasm = [("starts", 0), *[("idle", 0)] * 7], [0] * 8, [False] * 8
 
     def drives(self):
         made = high = 0
@@ -193,7 +193,7 @@ class Cogs:
         elif access == "halt":
             self.leave(cog, ("halts", clock, " ".join(rest)))
         elif access in ("load", "begin"):
-            self.doings[cog] = "runs", clock
+            self.doings[cog], self.is_pasm[cog] = ("runs", clock), access == "load"
         return is_loaded
 
 
@@ -243,8 +243,8 @@ def decoded(trace):
 
 
 def view_lines(trace, names, frequency):
-    """For each turn that a view shows its clock, its cog, whether it changes pins, and its line without the place; and the cogs at the
-    end."""
+    """For each turn that a view shows its clock, its cog, whether it changes pins, what asks it, and its line without the place; and the cogs
+    at the end."""
     cogs, lines = Cogs(), []
     for turn in decoded(trace):
         clock, cog, (access, *rest) = turn
@@ -253,7 +253,7 @@ def view_lines(trace, names, frequency):
             continue
         changes = pins_text(before, cogs.drives())
         text = f"{clock} {time_text(clock, frequency)}cog {cog} {turn_text(names, access, rest)}{changes}"
-        lines.append((clock, cog, bool(changes), text))
+        lines.append((clock, cog, bool(changes), (cogs.is_pasm[cog], access), text))
     return lines, cogs
 
 
@@ -281,12 +281,12 @@ def next_turn(trace, done, cog):
     return None
 
 
-def next_fault(told, turn, names):
-    """Whether what a view says of a cog's next access is otherwise than its next turn."""
+def next_fault(told, turn, names, place):
+    """Whether what a view says of a cog's next access, in front of this place, is otherwise than its next turn."""
     clock, access, rest = turn
     does = re.fullmatch(r"does next at clock (\d+): (.*)", told)
     if does:
-        return (int(does[1]), does[2]) != (clock, asked_text(names, access, rest))
+        return (int(does[1]), does[2]) != (clock, with_local(does[2] + place, asked_text(names, access, rest), names))
     waits = re.match(r"waits since clock (\d+) for the (counter|pins) ", told)
     if waits:
         return access[:4] != "wait" or int(waits[1]) > clock or (waits[2] == "counter") != (access == "waitcnt")
@@ -303,20 +303,45 @@ def heads_of(content):
 
 def with_local(line, text, names):
     """What is due of a line of a view that tells a local of the method in its place, where an address without a name or a stack is due; else that."""
-    due = re.fullmatch(r"(.* (?:read|write) (?:byte|word|long) )(?:[0-9A-F]{4}|(?:\S+\.)?stack(?:\+\d+)?)( = .*)", text)
-    told = re.fullmatch(r".* (?:read|write) (?:byte|word|long) (\w+\.\w+)((?:\+\d+)?) = .* (\w+)", line)
+    due = re.fullmatch(r"((?:.* )?(?:read|write) (?:byte|word|long) )(?:[0-9A-F]{4}|(?:\S+\.)?stack(?:\+\d+)?)((?: = .*)?)", text)
+    told = re.fullmatch(r"(?:.* )?(?:read|write) (?:byte|word|long) (\w+\.\w+)((?:\+\d+)?)(?: .*)? (\w+)", line)
     if not due or not told or told[1] not in names.locals or told[1].split(".")[0] != told[3]:
         return text
     return due[1] + told[1] + told[2] + due[2]
 
 
-def is_place(text, files):
-    """Whether a text is a place in a method: file, line and method, where it isn't empty."""
-    place = re.fullmatch(r" ([^ :]+):(\d+) (\w+)", text)
+def parted(text, files):
+    """A text, and the place of one of these files behind it: ` FILE:LINE`, with a method or without one; that may be empty."""
+    found = re.fullmatch(r"(.*?)( ([^ :]+):\d+(?: \w+)?)", text)
+    return (found[1], found[2]) if found and found[3] in files else (text, "")
+
+
+def may_ask(line, access):
+    """Whether a line of DAT may have an instruction of PASM that asks an access: the instruction of that name, or a long that stands for it."""
+    names = {access}
+    if access[2:] in SIZES:
+        names = {f"{word}{access[2:]}" for word in WORDS}
+    elif access in ("outa", "dira", "ina", "cnt", "halt"):
+        return bool(line.strip())
+    elif access[:4] != "wait":
+        names.add("hubop")
+    return bool({*names, *SIZES} & set(re.findall(r"\w+", line.decode("latin-1").lower())))
+
+
+def is_place(text, files, asks):
+    """Whether a text is a place where it isn't empty: file, line and method of a bytecode, and file and line of an instruction that may ask
+    this."""
+    place = re.fullmatch(r" ([^ :]+):(\d+)((?: \w+)?)", text)
     if not text or not place or place[1] not in files:
         return not text
+    is_pasm, access = asks
+    if access in ("load", "begin"):
+        return False
+    if is_pasm:
+        lines = re.split(rb"\r\n|\r|\n", files[place[1]])
+        return not place[3] and 1 <= int(place[2]) <= len(lines) and may_ask(lines[int(place[2]) - 1], access)
     before = [name for line, name in heads_of(files[place[1]]) if line <= int(place[2])]
-    return bool(before) and before[-1] == place[3]
+    return bool(before) and before[-1] == place[3][1:]
 
 
 # Waves
