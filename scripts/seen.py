@@ -302,8 +302,10 @@ def heads_of(content):
 
 
 def with_local(line, text, names):
-    """What is due of a line of a view that tells a local of the method in its place, where an address without a name or a stack is due; else that."""
-    due = re.fullmatch(r"((?:.* )?(?:read|write) (?:byte|word|long) )(?:[0-9A-F]{4}|(?:\S+\.)?stack(?:\+\d+)?)((?: = .*)?)", text)
+    """What is due of a line of a view that tells a local of the method in its place; else that. The stack of cog 0 lies behind all names, or is
+    called so; that of another cog lies in a variable of any name."""
+    place = r"(?:[0-9A-F]{4}|(?:\S+\.)?stack(?:\+\d+)?)" if re.match(r"\d+ (?:[\d.]+ us )?cog 0 ", text) else r"\S+"
+    due = re.fullmatch(rf"((?:.* )?(?:read|write) (?:byte|word|long) ){place}((?: = .*)?)", text)
     told = re.fullmatch(r"(?:.* )?(?:read|write) (?:byte|word|long) (\w+\.\w+)((?:\+\d+)?)(?: .*)? (\w+)", line)
     if not due or not told or told[1] not in names.locals or told[1].split(".")[0] != told[3]:
         return text
