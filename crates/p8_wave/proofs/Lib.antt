@@ -6,6 +6,7 @@ mod Taking
 mod Picturing
 mod Same
 mod Sectioning
+mod Together
 mod Walking
 mod Pieces
 mod Whole

@@ -13,10 +13,11 @@ use Rattle.p8_wave.specs.Values.{changes, shown}
 use Rattle.p8_wave.specs.Scale.{frequency, period_of, scale_text}
 use Rattle.p8_wave.specs.Wave.{head_text, first_text, signals_of, changes_text}
 use Rattle.p8_wave.specs.Sections.{entry_of, head_of, first_of, IsWalked}
+use Rattle.p8_wave.specs.Parts.{together}
 use Rattle.p8_wave.proofs.Sectioning.{all_variables, scope_all, shown_entries, values_shown}
 
 module _ (w : World) (past : List Turn) (selection : Selection) (f : ℕ) (period : Option ℕ) (walk : Walk) (told : f ≡ frequency w) (is_period : period ≡ period_of f) (walked : IsWalked w past (variables selection.pins_only) walk) (es e₁ e₂ e₃ : List Entry)
-    (is_shown : es ≡ filter (λ (e : Entry). selection.all || e.changes) e₁) (is₁ : e₁ ≡ walk.sections.entries.items) (is₂ : e₂ ≡ es) (is₃ : e₃ ≡ es) where
+    (is_shown : es ≡ filter (λ (e : Entry). selection.all || e.changes) e₁) (is₁ : e₁ ≡ together walk.sections.parts.items) (is₂ : e₂ ≡ es) (is₃ : e₃ ≡ es) where
   shown_es : es ≡ map (entry_of (changes w past)) (shown w past selection)
   shown_es = is_shown ∙ ap (filter (λ (e : Entry). selection.all || e.changes)) (is₁ ∙ walked.entries) ∙ shown_entries (changes w past) selection.all (variables selection.pins_only)
 

@@ -9,5 +9,6 @@ pub mod Plot
 -- Internal.
 pub mod Following
 pub mod Walks
+pub mod Parts
 pub mod Sections
 pub mod Tracing

@@ -18,6 +18,7 @@ use Rattle.p8_wave.specs.Scale.{scale_text}
 use Rattle.p8_wave.specs.Wave.{value_text, variable_text, scope_with, section_text, changes_text}
 use Rattle.p8_wave.specs.Following.{snapshot_value, differs}
 use Rattle.p8_wave.specs.Walks.{IsAt, Shows}
+use Rattle.p8_wave.specs.Parts.{together}
 
 -- each of these is one of the variables
 abbrev pub AreVariables : List Variable → Type 0
@@ -94,5 +95,5 @@ pub record IsDone (w : World) (past : List Turn) (vs : List Variable) (next : �
 -- what a walk along a history has written of some variables
 pub record IsWalked (w : World) (past : List Turn) (vs : List Variable) (walk : Walk) : Type 0 where
   pub text : walk.sections.text.items ≡ changes_text w past vs
-  pub entries : walk.sections.entries.items ≡ map (entry_of (changes w past)) vs
+  pub entries : together walk.sections.parts.items ≡ map (entry_of (changes w past)) vs
   pub first : Shows w past 0 walk.first

@@ -1,9 +1,8 @@
 // The variables of a wave, with the characters that stand for them.
-ghost use Rattle.std.specs.Prelude.{◌≡◌, ◌||◌, ◌++◌, ◌≤◌, ℕ, List, [], map, flat_map, filter, if◌then◌else◌, IfOk, OnOk};
+ghost use Rattle.std.specs.Prelude.{◌≡◌, ◌||◌, ◌++◌, ◌<◌, ◌≤◌, ℕ, List, [], map, flat_map, filter, if◌then◌else◌, IfOk, OnOk};
 ghost use Rattle.std.specs.List.{range_with_len};
-ghost use Rattle.p8_access.specs.Hub.{cogs, locks};
 ghost use Rattle.p8_wave.specs.declared.variables.Variable.TheVariants.{Pin};
-ghost use Rattle.p8_wave.specs.Variables.{variables, cog_variables, lock_variables};
+ghost use Rattle.p8_wave.specs.Variables.{cog_variables, lock_variables};
 ghost use Rattle.p8_wave.specs.Following.{differs};
 ghost use Rattle.p8_wave.specs.Sections.{unmarked, still, marked as marked_by, some_differ};
 
@@ -32,7 +31,7 @@ fn unchanged(variable: Variable, mark: u8) -> Entry
 }
 
 /// The pins, from `!` on.
-fn push_pins(entries: &mut Vec<Entry>) -> Result<(), NoMemory>
+pub fn push_pins(entries: &mut Vec<Entry>) -> Result<(), NoMemory>
     ensures { OnOk result (entries.new.items ≡ entries.old.items ++ map (λ n. still (Pin n)) (range_with_len 0 32)) }
 {
     for pin in 0..32 {
@@ -41,22 +40,21 @@ fn push_pins(entries: &mut Vec<Entry>) -> Result<(), NoMemory>
     Ok(())
 }
 
-/// What is shown of the cogs, from `A` on.
-fn push_cogs(entries: &mut Vec<Entry>) -> Result<(), NoMemory>
-    ensures { OnOk result (entries.new.items ≡ entries.old.items ++ flat_map (λ n. map still (cog_variables n)) (range_with_len 0 8)) }
+/// What is shown of a cog, from `A` on for the first.
+pub fn push_cog(entries: &mut Vec<Entry>, cog: u8) -> Result<(), NoMemory>
+    requires { cog < 8 }
+    ensures { OnOk result (entries.new.items ≡ entries.old.items ++ map still (cog_variables cog)) }
 {
-    for cog in 0..8 {
-        entries.extend_from_slice(&[
-            unchanged(Variable::Outa(cog), 65 + 3 * cog),
-            unchanged(Variable::Dira(cog), 66 + 3 * cog),
-            unchanged(Variable::State(cog), 67 + 3 * cog),
-        ])?;
-    }
+    entries.extend_from_slice(&[
+        unchanged(Variable::Outa(cog), 65 + 3 * cog),
+        unchanged(Variable::Dira(cog), 66 + 3 * cog),
+        unchanged(Variable::State(cog), 67 + 3 * cog),
+    ])?;
     Ok(())
 }
 
 /// What is shown of the locks, from `Y` on.
-fn push_locks(entries: &mut Vec<Entry>) -> Result<(), NoMemory>
+pub fn push_locks(entries: &mut Vec<Entry>) -> Result<(), NoMemory>
     ensures { OnOk result (entries.new.items ≡ entries.old.items ++ flat_map (λ n. map still (lock_variables n)) (range_with_len 0 8)) }
 {
     for lock in 0..8 {
@@ -66,19 +64,6 @@ fn push_locks(entries: &mut Vec<Entry>) -> Result<(), NoMemory>
         ])?;
     }
     Ok(())
-}
-
-/// The variables that may be shown, of which none has changed: all, or those of the pins and the locks alone.
-pub fn entries(alloc: Global, pins_only: bool) -> Result<Vec<Entry>, NoMemory>
-    ensures { IfOk result (λ entries. entries.items ≡ map still (variables pins_only)) }
-{
-    let mut entries = Vec::new(alloc);
-    push_pins(&mut entries)?;
-    if !pins_only {
-        push_cogs(&mut entries)?;
-    }
-    push_locks(&mut entries)?;
-    Ok(entries)
 }
 
 /// The entries that are shown: those that have changed, or all.
@@ -104,7 +89,7 @@ fn mark_change(entry: &mut Entry, old: &Snapshot, new: &Snapshot) -> bool
 }
 
 /// Marks the entries that differ in two snapshots, and tells whether there are any.
-pub fn mark_changes(entries: &mut [Entry], old: &Snapshot, new: &Snapshot) -> bool
+fn mark_changes(entries: &mut [Entry], old: &Snapshot, new: &Snapshot) -> bool
     ensures any { result ≡ some_differ old.now new.now entries.old }
     ensures marked { entries.new ≡ map (marked_by old.now new.now) entries.old }
 {
@@ -114,4 +99,12 @@ pub fn mark_changes(entries: &mut [Entry], old: &Snapshot, new: &Snapshot) -> bo
         any |= differs;
     }
     any
+}
+
+/// The same, of a list of entries.
+pub fn mark_entries(entries: &mut Vec<Entry>, old: &Snapshot, new: &Snapshot) -> bool
+    ensures any { result ≡ some_differ old.now new.now entries.old.items }
+    ensures marked { entries.new.items ≡ map (marked_by old.now new.now) entries.old.items }
+{
+    mark_changes(entries, old, new)
 }

@@ -12,6 +12,7 @@ mod entries;
 mod grid;
 mod heads;
 mod mark;
+mod parts;
 mod picture;
 mod plot_laws;
 mod plot_scale;

@@ -3,10 +3,10 @@ ghost use Rattle.std.specs.Prelude.{◌≡◌, ◌++◌, ◌*◌, nat_eq, codes,
 ghost use Rattle.std.specs.Fmt.{decimal};
 ghost use Rattle.p8_wave.specs.Variables.{variables};
 ghost use Rattle.p8_wave.specs.Sections.{still, marked, some_differ, section_of};
+ghost use Rattle.p8_wave.specs.Parts.{together};
 
-use crate::entries::{Entry, entries, mark_changes};
+use crate::parts::{Part, mark_all, parts, push_parts};
 use crate::snapshot::Snapshot;
-use crate::texts::push_changes;
 use itoa::Buffer;
 use p8_instr::push_text;
 use p8_words::NoMemory;
@@ -16,7 +16,7 @@ use std::alloc::Global;
 #[derive(Drop)]
 pub struct Sections {
     pub text: Vec<u8>,
-    pub entries: Vec<Entry>,
+    pub parts: Vec<Part>,
     pub ticks: u64,
 }
 
@@ -38,45 +38,45 @@ impl Sections {
     /// No section, where a clock lasts so many units of time, of all variables or of the pins and the locks alone.
     pub fn open(alloc: Global, ticks: u64, pins_only: bool) -> Result<Sections, NoMemory>
         ensures text { IfOk result (λ sections. sections.text.items ≡ []) }
-        ensures entries { IfOk result (λ sections. sections.entries.items ≡ map still (variables pins_only)) }
+        ensures entries { IfOk result (λ sections. together sections.parts.items ≡ map still (variables pins_only)) }
         ensures ticks { IfOk result (λ sections. sections.ticks ≡ ticks) }
     {
         Ok(Sections {
             text: Vec::new(alloc),
-            entries: entries(alloc, pins_only)?,
+            parts: parts(alloc, pins_only)?,
             ticks,
         })
     }
 
     /// Marks what differs in two snapshots, and tells whether anything does.
     fn mark(&mut self, old: &Snapshot, new: &Snapshot) -> bool
-        ensures any { result ≡ some_differ old.now new.now self.old.entries.items }
-        ensures entries { self.new.entries.items ≡ map (marked old.now new.now) self.old.entries.items }
+        ensures any { result ≡ some_differ old.now new.now (together self.old.parts.items) }
+        ensures entries { together self.new.parts.items ≡ map (marked old.now new.now) (together self.old.parts.items) }
         ensures text { self.new.text.items ≡ self.old.text.items }
         ensures ticks { self.new.ticks ≡ self.old.ticks }
     {
         if old == new {
             return false;
         }
-        mark_changes(&mut self.entries, old, new)
+        mark_all(&mut self.parts, old, new)
     }
 
     /// A clock, and what differs in two snapshots.
     fn push(&mut self, clock: u64, old: &Snapshot, new: &Snapshot) -> Result<(), NoMemory>
-        ensures text { OnOk result (self.new.text.items ≡ self.old.text.items ++ section_of (clock * self.old.ticks) old.now new.now self.old.entries.items) }
-        ensures entries { self.new.entries.items ≡ self.old.entries.items }
+        ensures text { OnOk result (self.new.text.items ≡ self.old.text.items ++ section_of (clock * self.old.ticks) old.now new.now (together self.old.parts.items)) }
+        ensures entries { together self.new.parts.items ≡ together self.old.parts.items }
         ensures ticks { self.new.ticks ≡ self.old.ticks }
     {
         push_time(&mut self.text, clock, self.ticks)?;
-        push_changes(&mut self.text, &self.entries, old, new)
+        push_parts(&mut self.text, &self.parts, old, new)
     }
 
     /// What changes at a clock, where anything does.
     pub fn change(&mut self, clock: u64, old: &Snapshot, new: &Snapshot) -> Result<(), NoMemory>
         ensures text { OnOk result (self.new.text.items ≡
-            self.old.text.items ++ (if some_differ old.now new.now self.old.entries.items then section_of
-            (clock * self.old.ticks) old.now new.now self.new.entries.items else [])) }
-        ensures entries { self.new.entries.items ≡ map (marked old.now new.now) self.old.entries.items }
+            self.old.text.items ++ (if some_differ old.now new.now (together self.old.parts.items) then section_of
+            (clock * self.old.ticks) old.now new.now (together self.new.parts.items) else [])) }
+        ensures entries { together self.new.parts.items ≡ map (marked old.now new.now) (together self.old.parts.items) }
         ensures ticks { self.new.ticks ≡ self.old.ticks }
     {
         if self.mark(old, new) {
@@ -89,8 +89,8 @@ impl Sections {
     /// The end, with what changes at it; nothing where it is at clock 0, whose values stand already.
     pub fn end(&mut self, clock: u64, old: &Snapshot, new: &Snapshot) -> Result<(), NoMemory>
         ensures text { OnOk result (self.new.text.items ≡
-            self.old.text.items ++ (if nat_eq clock 0 then [] else section_of (clock * self.old.ticks) old.now new.now self.new.entries.items)) }
-        ensures entries { self.new.entries.items ≡ map (marked old.now new.now) self.old.entries.items }
+            self.old.text.items ++ (if nat_eq clock 0 then [] else section_of (clock * self.old.ticks) old.now new.now (together self.new.parts.items))) }
+        ensures entries { together self.new.parts.items ≡ map (marked old.now new.now) (together self.old.parts.items) }
         ensures ticks { self.new.ticks ≡ self.old.ticks }
     {
         self.mark(old, new);

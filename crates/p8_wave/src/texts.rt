@@ -1,5 +1,5 @@
 // Texts that are appended.
-ghost use Rattle.std.specs.Prelude.{◌≡◌, ◌++◌, ◌≤◌, codes, flat_map, replicate, OnOk};
+ghost use Rattle.std.specs.Prelude.{◌≡◌, ◌<◌, ◌≤◌, ◌+◌, ◌-◌, ◌/◌, ◌%◌, ◌^◌, ◌++◌, codes, flat_map, replicate, take, OnOk};
 ghost use Rattle.std.specs.Fmt.{decimal};
 ghost use Rattle.p8_wave.specs.Variables.{width_of, name_of, scope_name, is_in as stands_in, is_of_cog, is_of_locks, is_of_pins};
 ghost use Rattle.p8_wave.specs.Wave.{binary, value_text, variable_text};
@@ -37,14 +37,33 @@ pub fn push_numbered(out: &mut Vec<u8>, text: &[u8], number: u32) -> Result<(), 
     push_text(out, Buffer::new().format(number).as_bytes())
 }
 
+/// The binary digit at a place of a number that has so many of them; place 0 is the first.
+fn binary_digit(width: u8, value: u32, place: u8) -> u8
+    requires width { width ≤ 32 }
+    requires place { place < width }
+    ensures { result ≡ 48 + value / 2 ^ (width - 1 - place) % 2 }
+{
+    b'0' + ((value >> (width - 1 - place)) % 2) as u8
+}
+
+/// The first so many of some digits.
+fn first_digits(digits: &[u8; 32], count: u8) -> &[u8]
+    requires { count ≤ 32 }
+    ensures { result.now ≡ take count digits.now }
+{
+    &digits[..usize::from(count)]
+}
+
 /// A number in this many binary digits, at most 32.
 fn push_binary(out: &mut Vec<u8>, width: u8, value: u32) -> Result<(), NoMemory>
     requires { width ≤ 32 }
     ensures { OnOk result (out.new.items ≡ out.old.items ++ binary width value) }
 {
+    let mut digits = [b'0'; 32];
     for place in 0..width {
-        push_text(out, &[b'0' + ((value >> (width - 1 - place)) % 2) as u8])?;
+        digits[usize::from(place)] = binary_digit(width, value, place);
     }
+    push_text(out, first_digits(&digits, width))?;
     Ok(())
 }
 

@@ -8,9 +8,9 @@ ghost use Rattle.p8_wave.specs.Values.{changes};
 ghost use Rattle.p8_wave.specs.Wave.{changes_text};
 ghost use Rattle.p8_wave.specs.Walks.{IsAt, IsSet};
 ghost use Rattle.p8_wave.specs.Sections.{AreVariables, still, entry_of, IsWalked};
+ghost use Rattle.p8_wave.specs.Parts.{together};
 
 use crate::courses::{Course, next_clock, take_turns};
-use crate::entries::entries;
 use crate::sections::Sections;
 use crate::snapshot::Snapshot;
 use p8_access::Turn;
@@ -37,14 +37,14 @@ fn write_sections(
         → AreVariables vs
         → IsSet w past script.now sections.old.ticks end
         → IsAt w past 0 turns.now course.old
-        → sections.old.entries.items ≡ map still vs
+        → together sections.old.parts.items ≡ map still vs
         → OnOk result (sections.new.text.items ≡ sections.old.text.items ++ changes_text w past vs) }
     ensures entries { (w : World) (past : List Turn) (vs : List Variable)
         → AreVariables vs
         → IsSet w past script.now sections.old.ticks end
         → IsAt w past 0 turns.now course.old
-        → sections.old.entries.items ≡ map still vs
-        → OnOk result (sections.new.entries.items ≡ map (entry_of (changes w past)) vs) }
+        → together sections.old.parts.items ≡ map still vs
+        → OnOk result (together sections.new.parts.items ≡ map (entry_of (changes w past)) vs) }
 {
     let mut left = turns;
     let mut old = course.snapshot();

@@ -12,6 +12,7 @@ ghost use Rattle.p8_wave.specs.Sections.{IsWalked};
 use crate::ending::push_end;
 use crate::entries::shown;
 use crate::heads::{push_first, push_head};
+use crate::parts::joined;
 use crate::scale::Scale;
 use crate::variables::Selection;
 use crate::walks::{Walk, walk_along};
@@ -34,7 +35,8 @@ fn text(
         → IsWalked w past (variables selection.pins_only) walk.now
         → IfOk result (λ text. text.items ≡ signals_of w past selection) }
 {
-    let shown = shown(alloc, &walk.sections.entries, selection.all)?;
+    let entries = joined(alloc, &walk.sections.parts)?;
+    let shown = shown(alloc, &entries, selection.all)?;
     let mut out = Vec::new(alloc);
     push_head(alloc, &mut out, scale, &shown)?;
     push_first(&mut out, &shown, &walk.first)?;
