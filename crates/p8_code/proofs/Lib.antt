@@ -5,4 +5,5 @@ mod Counting
 mod AcceptedCodes
 mod Files
 mod Listed
+mod Accepted
 mod Named

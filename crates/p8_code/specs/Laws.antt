@@ -4,7 +4,7 @@ use Rattle.p8_bytecode.specs.Table.{operands_of}
 use Rattle.p8_image.specs.declared.parts.ObjectPart.{ObjectPart}
 use Rattle.p8_map.specs.declared.names.FileNames.{FileNames}
 use Rattle.p8_code.specs.Bytecodes.{bytecode_name}
-use Rattle.p8_code.specs.Listing.{FileCode}
+use Rattle.p8_code.specs.Listing.{FileCode, code_of, lines_with}
 
 abbrev pub has_text : List ℕ → Bool
 has_text [] = false
@@ -20,3 +20,12 @@ HaveObjects [] [] [] = Unit {0}
 HaveObjects (file ∷ files) (object ∷ objects) (code ∷ others) =
     (length file.methods ≡ length object.methods) × (length code.methods ≡ length object.methods) × HaveObjects files objects others
 HaveObjects _ _ _ = ⊥
+
+-- A listing is in a text: the text is the code of some objects, by names and by what is known of their files beside them, and written with nothing as
+-- `more` the same code is the listing.
+pub record HoldsListing (text listing : List ℕ) : Type 0 where
+  pub names : List FileNames
+  pub objects : List ObjectPart
+  pub known : List FileCode
+  pub whole : text ≡ code_of names objects known
+  pub without : lines_with (λ more. []) names objects known ≡ listing

@@ -14,5 +14,5 @@ mod slices;
 mod source;
 
 pub use images::image_code;
-pub use laws::{bytecodes_have_names, listing_is_in_code};
+pub use laws::{bytecodes_have_names, listing_is_in_code, listing_is_in_code_of_accepted};
 pub use project::{project_code, project_short_code};
