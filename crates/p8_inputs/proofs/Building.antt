@@ -14,7 +14,6 @@ use Rattle.p8_objects.specs.declared.fault.ReadFile.{ReadFile}
 use Rattle.p8_objects.specs.Whole.{AreSources, EachTree, HasText}
 use Rattle.p8_objects.proofs.Sourcing.{text-read}
 use Rattle.p8_tree.specs.Proper.{IsProperFile}
-use Rattle.p8_image.specs.declared.parts.ObjectPart.{ObjectPart}
 use Rattle.p8_image.specs.Loading.{ImageValue}
 use Rattle.p8_build.specs.declared.building.Built.{Built}
 use Rattle.p8_tree.specs.declared.faults.Fault.{Fault}

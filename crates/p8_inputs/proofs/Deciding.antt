@@ -27,8 +27,8 @@ use Rattle.p8_inputs.specs.declared.program.Format.TheVariants.{Memory, Image, E
 use Rattle.p8_inputs.specs.declared.stop.Stop.{Stop}
 use Rattle.p8_inputs.specs.declared.stop.Stop.TheVariants.{Unread, Missing, NoMemory, Refused, BadProgram, BadScript, Unnamed}
 use Rattle.p8_inputs.specs.Programs.{fault_of}
-use Rattle.p8_inputs.specs.Sources.{HasOneOutcome, IsBuiltFrom, IsListingFrom, IsCodeFrom, IsMapFrom, IsHintsFrom}
-use Rattle.p8_inputs.specs.Inputs.{IsProgram, IsScriptFor, IsProgramUnread, HasFault}
+use Rattle.p8_inputs.specs.Sources.{HasOneOutcome, IsListingFrom, IsCodeFrom, IsMapFrom, IsHintsFrom}
+use Rattle.p8_inputs.specs.Inputs.{IsProgram, IsScriptFor, IsProgramUnread}
 use Rattle.p8_page.specs.Page.{Block}
 use Rattle.p8_inputs.specs.Pages.{AreBlocksFrom}
 use Rattle.p8_inputs.specs.Asks.{most_sent, Ask, program, viewing, paging, listing, coding, mapping, hinting, script, history, message, Given, bytes, viewed, paged, lines, Gives, Give, StopsAtFile, StopsAtMessage, StopsAtProgram, StopsAtScript, IsUnnamed, StopsAt, StopsFirst, Stops, IsOfFiles, HasOneReading}

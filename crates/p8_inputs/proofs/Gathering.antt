@@ -13,7 +13,6 @@ use Rattle.p8_io.specs.Shelves.{Files}
 use Rattle.p8_objects.specs.declared.fault.ReadFile.{ReadFile}
 use Rattle.p8_objects.specs.Lists.{IsAt}
 use Rattle.p8_objects.specs.Sources.{mentions_in, mentions}
-use Rattle.p8_objects.specs.Projects.{IsIn}
 use Rattle.p8_objects.specs.Projects as by_name
 use Rattle.p8_objects.specs.Outcomes.{Outcome, project, refused, missing, failed, shelved, ComesTo, Gathers}
 use Rattle.p8_objects.specs.Outcomes as outcomes

@@ -1,6 +1,5 @@
 -- What was read for an ask, and for asks one after the other.
-use Rattle.std.proofs.Common.{◌≡◌, ℕ, inl, inr, refl, sym, subst, List, [], ◌∷◌, ◌++◌, Option, Some, None}
-use Rattle.std.specs.Prelude.{Result, Ok, Err, IfOk}
+use Rattle.std.proofs.Common.{◌≡◌, ℕ, inl, inr, refl, sym, subst, List, [], ◌∷◌, ◌++◌}
 use Rattle.p8_io.specs.Shelves.{Files, Log, WereRead}
 use Rattle.p8_commands.specs.declared.kind.ImageKind.{ImageKind}
 use Rattle.p8_commands.specs.declared.kind.ImageKind.TheVariants as kind

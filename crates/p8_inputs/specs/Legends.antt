@@ -1,5 +1,5 @@
 -- The legend of what is run (this project's profile).
-use Rattle.std.specs.Prelude.{ℕ, ◌≡◌, Bool, false, List, [], Option, Some, None}
+use Rattle.std.specs.Prelude.{ℕ, ◌≡◌, false, List, [], Option, Some, None}
 use Rattle.p8_io.specs.Shelves.{Files}
 use Rattle.p8_legend.specs.declared.legend.Legend.{Legend}
 use Rattle.p8_legend.specs.declared.ranges.Ranges.{Ranges}

@@ -1,5 +1,5 @@
 -- What a page shows of the project of what is run (this project's profile).
-use Rattle.std.specs.Prelude.{ℕ, ◌≡◌, Bool, false, List, []}
+use Rattle.std.specs.Prelude.{ℕ, ◌≡◌, false, List, []}
 use Rattle.p8_io.specs.Shelves.{Files}
 use Rattle.p8_page.specs.Page.{Block}
 use Rattle.p8_inputs.specs.declared.program.Format.{Format}

@@ -25,7 +25,7 @@ use Rattle.p8_serial.specs.Typed.{typed_text}
 use Rattle.p8_inputs.specs.declared.inputs.Inputs.{Inputs}
 use Rattle.p8_inputs.specs.declared.inputs.Recorded.{Recorded}
 use Rattle.p8_inputs.specs.declared.program.Format.{Format}
-use Rattle.p8_inputs.specs.Asks.{most_sent, Given, bytes, viewed, paged, lines, Give, history, script_ask, check_asks, bytes_in, lines_in, later_bytes_in}
+use Rattle.p8_inputs.specs.Asks.{most_sent, Given, bytes, viewed, paged, lines, Give, history, script_ask, check_asks, bytes_in, lines_in}
 use Rattle.p8_inputs.specs.Inputs.{IsProgram, IsScriptFor}
 use Rattle.p8_inputs.specs.Legends.{HasName, IsLegendFrom}
 use Rattle.p8_inputs.specs.Pages.{AreBlocksFrom}
@@ -39,7 +39,6 @@ use Rattle.p8_prop.specs.declared.work.Answer.{Answer}
 use Rattle.p8_prop.specs.declared.work.Answer.TheVariants.{Text, Bad}
 use Rattle.p8_prop.specs.declared.work.Work.{Work}
 use Rattle.p8_prop.specs.declared.work.Work.TheVariants.{Done, Run, View, Page}
-use Rattle.p8_prop.specs.declared.view.Viewing.{Viewing}
 use Rattle.p8_prop.specs.Headline.{IsToldBySource, IsHistoryOf, IsBuild}
 use Rattle.p8_prop.specs.Texts.{accepted_line, dumped_range, name_in, HasVerdict, IsViewed, IsPaged}
 use Rattle.p8_prop.specs.Works.{IsAnswerTo, IsCheckedBy, IsRunWork, IsText, IsTextOfRun, IsTextOfView, IsViewWork, IsTextOfPage, IsPageWork, IsWork}

@@ -1,5 +1,5 @@
 -- What is counted of a life of PASM is determined by it.
-use Rattle.std.proofs.Common.{◌≡◌, ◌∙◌, ◌+◌, ◌-◌, ◌≤◌, ℕ, List, Option, Some, None, ap, sym, arith}
+use Rattle.std.proofs.Common.{◌≡◌, ◌∙◌, ◌+◌, ◌-◌, ◌≤◌, ℕ, List, Option, ap, sym, arith}
 use Rattle.p8_access.specs.declared.kinds.Access.{Access}
 use Rattle.p8_access.specs.declared.order.Turn.{Turn}
 use Rattle.p8_access.specs.Lives.{Loaded}

@@ -1,5 +1,5 @@
 -- What is saved, is found good.
-use Rattle.std.proofs.Common.{◌≡◌, ◌∙◌, sym, ap, subst, refl, arith, inl, inr, ℕ, ◌+◌, ◌*◌, ◌≤◌, Bool, List, [], ◌∷◌, ◌++◌, length, take, reverse, Option, Some, None}
+use Rattle.std.proofs.Common.{◌≡◌, ◌∙◌, sym, ap, subst, refl, arith, inl, inr, ℕ, ◌+◌, ◌*◌, ◌≤◌, List, [], ◌∷◌, ◌++◌, length, take, reverse, Option, Some, None}
 use Rattle.std.proofs.lemmas.List.{take_all, length-reverse}
 use Rattle.std.specs.Prelude.{◌↔◌}
 use Rattle.p8_access.specs.declared.memory.Boot.{Boot}
@@ -16,14 +16,11 @@ use Rattle.p8_finish.specs.Checks.{good_line}
 use Rattle.p8_inputs.specs.declared.program.Format.{Format}
 use Rattle.p8_inputs.specs.Asks.{Given, bytes, viewed, paged, lines, Give, history, script_ask, bytes_in, lines_in}
 use Rattle.p8_inputs.specs.Programs.{format_for, world_of, boot_by}
-use Rattle.p8_commands.specs.Commands.{Running, Save, Check}
-use Rattle.p8_prop.specs.declared.status.Status.{Status}
-use Rattle.p8_prop.specs.declared.status.Status.TheVariants as status
+use Rattle.p8_commands.specs.Commands.{Save}
 use Rattle.p8_prop.specs.Headline.{IsHeadline}
-use Rattle.p8_prop.specs.Texts.{IsAskedFor}
-use Rattle.p8_prop.specs.Verdicts.{Verdict, written, status_of}
-use Rattle.p8_prop.specs.Promises.{HasHeadline, Keeps}
-use Rattle.p8_prop.specs.Saved.{HasAsBefore, SavedIsGood, IsSaved, IsFoundGood, CheckFindsGood}
+use Rattle.p8_prop.specs.Verdicts.{written, status_of}
+use Rattle.p8_prop.specs.Promises.{HasHeadline}
+use Rattle.p8_prop.specs.Saved.{SavedIsGood, CheckFindsGood}
 use Rattle.p8_prop.proofs.Coming.{given-for}
 
 -- the law of good files

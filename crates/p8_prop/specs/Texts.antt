@@ -1,7 +1,6 @@
 -- What each command reads, and the text that it asks for (this project's profile).
 use Rattle.std.specs.Prelude.{ℕ, ◌+◌, ◌≡◌, nat_le, if◌then◌else◌, Bool, false, List, [], ◌∷◌, ◌++◌, Option, Some, None, option_and_then, reverse, codes}
 use Rattle.p8_machine.specs.declared.asked.Asked.{Asked}
-use Rattle.p8_access.specs.declared.memory.Boot.{Boot}
 use Rattle.p8_access.specs.declared.order.Turn.{Turn}
 use Rattle.p8_access.specs.Worlds.{World}
 use Rattle.p8_access.specs.Histories.{Ended}

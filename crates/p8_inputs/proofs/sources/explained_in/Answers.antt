@@ -1,7 +1,6 @@
-use Rattle.std.proofs.Common.{◌∙◌, ℕ, false, List, length, ap, sym, subst}
+use Rattle.std.proofs.Common.{◌∙◌, ℕ, false}
 use Rattle.std.proofs.lemmas.Result.{IfOk-weaker, IfErr-weaker}
 use Rattle.p8_tree.specs.Views.{named_sources_of}
-use Rattle.p8_objects.specs.Whole.{AreSources}
 use Rattle.p8_objects.proofs.Sourcing.{count-of}
 use Rattle.p8_inputs.proofs.Stopping.{handed-on}
 use Rattle.p8_inputs.proofs.Building.{image-from, legend-from, building-stops}

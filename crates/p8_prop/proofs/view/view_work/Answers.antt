@@ -1,13 +1,12 @@
 use Rattle.std.proofs.Common.{subst, List, Option, ℕ}
 use Rattle.p8_commands.specs.Naming.{name_of}
 use Rattle.p8_commands.specs.Seen.{dump_if_any, running}
-use Rattle.p8_inputs.specs.Asks.{Stops, view_asks}
+use Rattle.p8_inputs.specs.Asks.{view_asks}
 use Rattle.p8_inputs.specs.Legends.{HasName, IsLegendFrom}
-use Rattle.p8_inputs.specs.Orders.{AreAllRead, AreReadSoFar}
+use Rattle.p8_inputs.specs.Orders.{AreReadSoFar}
 use Rattle.p8_inputs.specs.Programs.{format_for}
 use Rattle.p8_inputs.specs.Runs.{Begins}
 use Rattle.p8_inputs.specs.declared.program.Format.{Format}
-use Rattle.p8_inputs.proofs.Stopping.{handed-on}
 use Rattle.p8_prop.specs.Texts.{IsViewed}
 use Rattle.p8_prop.proofs.Coming.{begun, view-told}
 use Rattle.p8_prop.proofs.view.view_work.Goals as goal
