@@ -79,7 +79,7 @@ unfoldable pub slips : List Slip
 slips =
     slip 2 any (codes "%" ∷ []) any (codes "`//` is the remainder of a division; `%` begins a number in base 2.")
     ∷ slip 6 any (codes "%" ∷ []) any (codes "`//` is the remainder of a division; `%` begins a number in base 2.")
-    ∷ slip 6 any (codes "=" ∷ []) any (codes "`==` compares and `:=` assigns; `=` alone defines constants in CON.")
+    ∷ slip 6 any (codes "=" ∷ codes "==" ∷ []) any (codes "`==` compares and `:=` assigns; `=` alone defines constants in CON.")
     ∷ slip 6 any (codes ":=" ∷ []) any (codes "`:=` assigns to a variable, in a method; CON defines by `=`, and VAR gives no values.")
     ∷ slip 6 any (codes "!" ∷ []) (codes "=" ∷ []) (codes "`<>` is not equal; `!` inverts the bits of a value.")
     ∷ slip 6 (codes "&" ∷ []) (codes "&" ∷ []) any (codes "AND joins conditions; `&` joins the bits of two values.")
@@ -105,6 +105,19 @@ slips =
     (codes "The Manual has no preprocessor: define numbers in CON, and take in files by OBJ.")
     ∷ slip 6 (codes "DEFINE" ∷ codes "UNDEF" ∷ codes "IFDEF" ∷ codes "IFNDEF" ∷ codes "INCLUDE" ∷ []) any any
     (codes "The Manual has no preprocessor: define numbers in CON, and take in files by OBJ.")
+    ∷ slip 6 (codes "." ∷ []) (codes "BYTE" ∷ codes "WORD" ∷ codes "LONG" ∷ []) any
+    (codes "`.byte`, `.word` and `.long` are parts of a name alone: for b[1].byte[2] write byte[@b[1]][2].")
+    ∷ slip 6 (codes "," ∷ []) (codes "BYTE" ∷ codes "WORD" ∷ codes "LONG" ∷ []) any
+    (codes "A line of VAR has one size: begin a new line for another. Parameters and locals are longs, and have no size word.")
+    ∷ slip 6 (codes "|" ∷ codes "(" ∷ []) (codes "BYTE" ∷ codes "WORD" ∷ codes "LONG" ∷ []) any
+    (codes "Parameters and locals are longs, and have no size word; a local may be an array of longs.")
+    ∷ slip 6 (codes ":" ∷ []) (codes "RESULT" ∷ []) any (codes "A method's result needs no name: RESULT is there without it.")
+    ∷ slip 6 (codes "#" ∷ [])
+    (codes "ABS" ∷ codes "ADD" ∷ codes "AND" ∷ codes "CALL" ∷ codes "CMP" ∷ codes "JMP" ∷ codes "MAX" ∷ codes "MIN" ∷ codes "MOV" ∷
+    codes "MUL" ∷ codes "NEG" ∷ codes "NEXT" ∷ codes "NOP" ∷ codes "OR" ∷ codes "QUIT" ∷ codes "REPEAT" ∷ codes "RET" ∷ codes "RETURN" ∷
+    codes "REV" ∷ codes "ROL" ∷ codes "ROR" ∷ codes "SAR" ∷ codes "SHL" ∷ codes "SHR" ∷ codes "SUB" ∷ codes "TEST" ∷ codes "WAITCNT" ∷
+    codes "XOR" ∷ []) any
+    (codes "A reserved word can be the name of a local label alone, as :sub in jmp #:sub.")
     ∷ slip 9 any (codes "PI" ∷ []) any (codes "In thousandths PI is 3142.")
     ∷ slip 9 any (codes "FLOAT" ∷ codes "ROUND" ∷ codes "TRUNC" ∷ []) any
     (codes "Where numbers are in thousandths, FLOAT(x) is x * 1000, and TRUNC(x) is x / 1000.")

@@ -130,7 +130,7 @@ pub(crate) fn mends(refusal: Refusal) -> &'static str
         Refusal::Cycle => "Take the object out of one of the files.",
         Refusal::TooManyObjects =>
             "A file may have 255 items and instances, and a project 255 files.",
-        Refusal::OperandRange => "Put a greater number into a long, and name that long.",
+        Refusal::OperandRange => "Put another number into a long, and name that long.",
         Refusal::FitExceeded => "Shorten the code; a cog has 496 longs.",
         Refusal::OrgRange => "Give a cog address from 0 to 496.",
         Refusal::NoRetLabel => "Write x_RET before the routine's RET.",

@@ -18,10 +18,10 @@ type Slip = (u8, Words, Words, Words, &'static str);
 type Form = (Words, &'static str);
 
 #[rattlefmt::skip]
-static SLIPS: [Slip; 30] = [
+static SLIPS: [Slip; 35] = [
     (2, &[], &["%"], &[], "`//` is the remainder of a division; `%` begins a number in base 2."),
     (6, &[], &["%"], &[], "`//` is the remainder of a division; `%` begins a number in base 2."),
-    (6, &[], &["="], &[], "`==` compares and `:=` assigns; `=` alone defines constants in CON."),
+    (6, &[], &["=", "=="], &[], "`==` compares and `:=` assigns; `=` alone defines constants in CON."),
     (6, &[], &[":="], &[], "`:=` assigns to a variable, in a method; CON defines by `=`, and VAR gives no values."),
     (6, &[], &["!"], &["="], "`<>` is not equal; `!` inverts the bits of a value."),
     (6, &["&"], &["&"], &[], "AND joins conditions; `&` joins the bits of two values."),
@@ -43,6 +43,15 @@ static SLIPS: [Slip; 30] = [
     (6, &[], &["#"], &["DEFINE", "UNDEF", "IFDEF", "IFNDEF", "INCLUDE", "ELSE", "ENDIF"],
      "The Manual has no preprocessor: define numbers in CON, and take in files by OBJ."),
     (6, &["DEFINE", "UNDEF", "IFDEF", "IFNDEF", "INCLUDE"], &[], &[], "The Manual has no preprocessor: define numbers in CON, and take in files by OBJ."),
+    (6, &["."], &["BYTE", "WORD", "LONG"], &[], "`.byte`, `.word` and `.long` are parts of a name alone: for b[1].byte[2] write byte[@b[1]][2]."),
+    (6, &[","], &["BYTE", "WORD", "LONG"], &[],
+     "A line of VAR has one size: begin a new line for another. Parameters and locals are longs, and have no size word."),
+    (6, &["|", "("], &["BYTE", "WORD", "LONG"], &[], "Parameters and locals are longs, and have no size word; a local may be an array of longs."),
+    (6, &[":"], &["RESULT"], &[], "A method's result needs no name: RESULT is there without it."),
+    (6, &["#"], &[
+        "ABS", "ADD", "AND", "CALL", "CMP", "JMP", "MAX", "MIN", "MOV", "MUL", "NEG", "NEXT", "NOP", "OR",
+        "QUIT", "REPEAT", "RET", "RETURN", "REV", "ROL", "ROR", "SAR", "SHL", "SHR", "SUB", "TEST", "WAITCNT", "XOR",
+    ], &[], "A reserved word can be the name of a local label alone, as :sub in jmp #:sub."),
     (9, &[], &["PI"], &[], "In thousandths PI is 3142."),
     (9, &[], &["FLOAT", "ROUND", "TRUNC"], &[], "Where numbers are in thousandths, FLOAT(x) is x * 1000, and TRUNC(x) is x / 1000."),
     (10, &[], &["?"], &[], "There is no `?` here: write a generator of your own, as x := x * 1664525 + 1013904223."),

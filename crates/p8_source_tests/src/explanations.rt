@@ -22,7 +22,7 @@ fn is_explained(alloc: Global, case: &Case) -> Result<bool, NoMemory> {
     Ok(text.as_slice() == expected)
 }
 
-static EXPLAINED: [Case; 25] = [
+static EXPLAINED: [Case; 32] = [
     // A token that can't stand where it does, told apart by what its line shows: after a tab, in UTF-16, with CR LF, in a long line.
     (
         b"PUB main\n\ta := next\n",
@@ -182,6 +182,98 @@ static EXPLAINED: [Case; 25] = [
             `=<` and `=>` compare; `<=` and `>=` assign to a variable.\n\
             A constant is needed here, and this isn't one, or it is defined by itself.\n\
             Use numbers, constants and operators alone.\n",
+    ),
+    // Slips at a word that is reserved: a part of an element, another size in a line of VAR and in a method's head, the result, and a label.
+    (
+        b"VAR\n  long b[2]\nPUB main | x\n  x := b[1].Byte[2]\n",
+        6,
+        4,
+        13,
+        None,
+        b"m.spin:4:13: 6 Unexpected\n\
+            \x20 x := b[1].Byte[2]\n\
+            \x20           ^\n\
+            `.byte`, `.word` and `.long` are parts of a name alone: for b[1].byte[2] write byte[@b[1]][2].\n\
+            No line begins or goes on so, or the file ends here and more must follow.\n\
+            Look at what stands before it: a missing operator, bracket, comma or colon is told at the token after it.\n",
+    ),
+    (
+        b"VAR byte a, word b\nPUB main\n",
+        6,
+        1,
+        13,
+        None,
+        b"m.spin:1:13: 6 Unexpected\n\
+            VAR byte a, word b\n\
+            \x20           ^\n\
+            A line of VAR has one size: begin a new line for another. Parameters and locals are longs, and have no size word.\n\
+            No line begins or goes on so, or the file ends here and more must follow.\n\
+            Look at what stands before it: a missing operator, bracket, comma or colon is told at the token after it.\n",
+    ),
+    (
+        b"PUB main | byte x\n",
+        6,
+        1,
+        12,
+        None,
+        b"m.spin:1:12: 6 Unexpected\n\
+            PUB main | byte x\n\
+            \x20          ^\n\
+            Parameters and locals are longs, and have no size word; a local may be an array of longs.\n\
+            No line begins or goes on so, or the file ends here and more must follow.\n\
+            Look at what stands before it: a missing operator, bracket, comma or colon is told at the token after it.\n",
+    ),
+    (
+        b"PUB main : result\n",
+        6,
+        1,
+        12,
+        None,
+        b"m.spin:1:12: 6 Unexpected\n\
+            PUB main : result\n\
+            \x20          ^\n\
+            A method's result needs no name: RESULT is there without it.\n\
+            No line begins or goes on so, or the file ends here and more must follow.\n\
+            Look at what stands before it: a missing operator, bracket, comma or colon is told at the token after it.\n",
+    ),
+    (
+        b"PUB main\nDAT\n call #sub\n",
+        6,
+        3,
+        8,
+        None,
+        b"m.spin:3:8: 6 Unexpected\n\
+            \x20call #sub\n\
+            \x20      ^\n\
+            A reserved word can be the name of a local label alone, as :sub in jmp #:sub.\n\
+            No line begins or goes on so, or the file ends here and more must follow.\n\
+            Look at what stands before it: a missing operator, bracket, comma or colon is told at the token after it.\n",
+    ),
+    // A comparison where a statement stands, and an operand below 0.
+    (
+        b"PUB main | x\n  x == 1\n",
+        6,
+        2,
+        5,
+        None,
+        b"m.spin:2:5: 6 Unexpected\n\
+            \x20 x == 1\n\
+            \x20   ^\n\
+            `==` compares and `:=` assigns; `=` alone defines constants in CON.\n\
+            No line begins or goes on so, or the file ends here and more must follow.\n\
+            Look at what stands before it: a missing operator, bracket, comma or colon is told at the token after it.\n",
+    ),
+    (
+        b"PUB main\nDAT\n mov x, #-1\nx long 0\n",
+        21,
+        3,
+        10,
+        None,
+        b"m.spin:3:10: 21 OperandRange\n\
+            \x20mov x, #-1\n\
+            \x20        ^\n\
+            This operand isn't from 0 to 511, or the label isn't on a long.\n\
+            Put another number into a long, and name that long.\n",
     ),
     // A built-in without parentheses, and one with two arguments in place of one.
     (
