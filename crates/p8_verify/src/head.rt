@@ -82,3 +82,11 @@ impl Head {
         }
     }
 }
+
+/// What follows the head with which these bytes begin.
+pub fn after_head(bytes: &[u8]) -> &[u8]
+    requires { 16 ≤ length bytes.now }
+    ensures { result.now ≡ drop 16 bytes.now }
+{
+    &bytes[HEAD..]
+}

@@ -149,6 +149,17 @@ pub fn turn_of_record(bytes: &[u8]) -> Turn
     turn_by(bytes)
 }
 
+/// Whether these bytes begin with the record of a turn.
+pub fn begins_with(bytes: &[u8], turn: Turn) -> bool
+    ensures record { IsTrue result → IsRecord bytes.now turn (drop 24 bytes.now) × (24 ≤ length bytes.now) }
+    ensures other { (rest : List ℕ) → IsRecord bytes.now turn rest → IsTrue result }
+{
+    if turn.key.clock > u64::from(u32::MAX) || bytes.len() < RECORD {
+        return false;
+    }
+    is_record_of(&bytes[..RECORD], turn)
+}
+
 /// What follows the record with which these bytes begin.
 pub fn after_record(bytes: &[u8]) -> &[u8]
     requires { 24 ≤ length bytes.now }

@@ -1,50 +1,71 @@
-use Rattle.std.proofs.Common.{◌≡◌, ◌∙◌, ap, sym, subst, ◌∷◌, ℕ, ◌+◌, List, length, drop, rules, arith, IsNone}
+use Rattle.std.proofs.Common.{◌≡◌, ◌∙◌, ap, sym, subst, refl, ◌∷◌, [], ℕ, ◌+◌, ◌-◌, List, length, rules, arith, IsNone, IsTrue, IfSome}
 use Rattle.p8_access.specs.declared.order.Turn.{Turn}
 use Rattle.p8_access.specs.Worlds.{World}
 use Rattle.p8_access.specs.Histories.{Extends, IsOver}
 use Rattle.p8_cog.specs.Lives.{asks}
 use Rattle.p8_machine.specs.Machines.{world_in, past_in}
 use Rattle.p8_verify.specs.Table.{IsRecord}
-use Rattle.p8_verify.specs.Verdicts.{IsWrong}
-use Rattle.p8_verify.proofs.Walking.{Left, went_on, went_wrong, has_record, ended, unended}
+use Rattle.p8_verify.specs.Told.{IsTold}
+use Rattle.p8_verify.proofs.Walking.{went_on, next-is}
 use Rattle.p8_verify.proofs.verdicts.walk.Goals as goal
 
-pub turn_of_record-turn-requires : goal.turn_of_record-turn-requires
-turn_of_record-turn-requires c =
-    has_record (world_in c.args.machine.now) (past_in c.loop-index.machine) c.args.count c.loop-index.index c.loop-index.rest.now c.requires.records.0 c.loop-index-test.true (c.loop-index.invariant.left c.requires.records.0 c.requires.records.1)
+pub loop-index-init : goal.loop-index-init
+loop-index-init c = record {
+  stands = c.requires.stands;
+  world = refl;
+  done = ap length c.requires.begin;
+  told = λ v told.
+      let w = world_in c.args.machine.now in
+      let all : c.args.count - 0 ≡ c.args.count = omega arith in
+      subst (λ (n : ℕ). IsTold w [] n 1 c.args.records.now v) all (subst (λ (past : List Turn). IsTold w past (c.args.count - 0) 1 c.args.records.now v) c.requires.begin told);
+}
 
-pub returns-in-Some : goal.returns-in-Some
-returns-in-Some c = λ turns are.
-    let wrong = subst (λ (w : World). IsWrong w (past_in c.loop-index.machine) c.turn_of_record-turn.result c.in-Some.cause) c.loop-index.invariant.world c.in-Some.ensures.turn in
-    rw c.bad_after.ensures
-    (went_wrong (world_in c.args.machine.now) (past_in c.loop-index.machine) c.args.count c.loop-index.index c.loop-index.rest.now turns c.turn_of_record-turn.result (drop 24 c.loop-index.rest.now) c.in-Some.cause c.loop-index-test.true (c.loop-index.invariant.left turns are) c.loop-index.invariant.done c.turn_of_record-turn.ensures.turn wrong)
+pub returns-in-None : goal.returns-in-None
+returns-in-None c =
+    let none : IsNone c.step.result = search rules in
+    let over = subst (λ (w : World). IsOver asks w (past_in c.loop-index.machine)) c.loop-index.invariant.world ((c.step.ensures.over c.loop-index.invariant.stands).0 none) in
+    c.loop-index.invariant.told _ (c.verdict_at.ensures (world_in c.args.machine.now) (past_in c.loop-index.machine) c.loop-index.invariant.done over)
+
+pub verdict_at-requires-then-not-begins_with-clause-differs : goal.verdict_at-requires-then-not-begins_with-clause-differs
+verdict_at-requires-then-not-begins_with-clause-differs c = λ rest is.
+    let yes : IsTrue c.begins_with.result = c.begins_with.ensures.other rest is in
+    search rules
+
+pub returns-then-not-begins_with : goal.returns-then-not-begins_with
+returns-then-not-begins_with c =
+    let extends = subst (λ (w : World). Extends asks w (past_in c.loop-index.machine) c.in-Some.next) c.loop-index.invariant.world (rw c.in-Some.is at (c.step.ensures.extends c.loop-index.invariant.stands)) in
+    c.loop-index.invariant.told _ (c.verdict_at-then-not-begins_with.ensures (world_in c.args.machine.now) (past_in c.loop-index.machine) c.loop-index.invariant.done extends)
 
 pub loop-index-preserved : goal.loop-index-preserved
 loop-index-preserved c =
-    let past : past_in c.follow.new.machine ≡ c.turn_of_record-turn.result ∷ past_in c.loop-index.machine = c.follow.ensures.past c.in-None.is in
-    let extends = subst (λ (w : World). Extends asks w (past_in c.loop-index.machine) c.turn_of_record-turn.result) c.loop-index.invariant.world c.in-None.ensures.turn in
-    let is = subst (λ (rest : List ℕ). IsRecord c.loop-index.rest.now c.turn_of_record-turn.result rest) (sym c.after_record-rest.ensures) c.turn_of_record-turn.ensures.turn in
-    let done : length (past_in c.loop-index.machine) ≡ c.loop-index.index = c.loop-index.invariant.done in
+    let w = world_in c.args.machine.now in
+    let before = past_in c.loop-index.machine in
+    let next = c.in-Some.next in
+    let yes : IsTrue c.begins_with.result = search rules in
+    let past : past_in c.step.new.self ≡ next ∷ before = rw c.in-Some.is at c.step.ensures.past in
+    let extends = subst (λ (w : World). Extends asks w before next) c.loop-index.invariant.world (rw c.in-Some.is at (c.step.ensures.extends c.loop-index.invariant.stands)) in
+    let is = subst (λ (rest : List ℕ). IsRecord c.loop-index.rest.now next rest) (sym c.after_record-rest.ensures) (c.begins_with.ensures.record yes).0 in
+    let done : length before ≡ c.loop-index.index = c.loop-index.invariant.done in
     record {
-      stands = c.follow.ensures.stands;
-      world = c.follow.ensures.world ∙ c.loop-index.invariant.world;
-      done = (let count : length (past_in c.follow.new.machine) ≡ length (c.turn_of_record-turn.result ∷ past_in c.loop-index.machine) = ap length past in omega arith);
-      left = λ turns are.
-          subst (λ (h : List Turn). Left (world_in c.args.machine.now) h c.args.count (c.loop-index.index + 1) c.after_record-rest.result.now turns) (sym past)
-          (went_on (world_in c.args.machine.now) (past_in c.loop-index.machine) c.args.count c.loop-index.index c.loop-index.rest.now turns c.turn_of_record-turn.result c.after_record-rest.result.now c.loop-index-test.true (c.loop-index.invariant.left turns are) is extends);
+      stands = c.step.ensures.stands c.loop-index.invariant.stands;
+      world = c.step.ensures.world ∙ c.loop-index.invariant.world;
+      done = (let count : length (past_in c.step.new.self) ≡ length (next ∷ before) = ap length past in omega arith);
+      told = λ v told. c.loop-index.invariant.told v
+          (went_on w before c.args.count c.loop-index.index c.loop-index.rest.now next c.after_record-rest.result.now c.loop-index-test.true is extends v
+          (subst (λ (h : List Turn). IsTold w h (c.args.count - (c.loop-index.index + 1)) (c.loop-index.index + 1 + 1) c.after_record-rest.result.now v) past told));
     }
 
-pub returns-in-None-step : goal.returns-in-None-step
-returns-in-None-step c = λ turns are.
-    let none : IsNone c.step.result = search rules in
-    let over = subst (λ (w : World). IsOver asks w (past_in c.loop-index.machine)) c.loop-index.invariant.world ((c.step.ensures.over c.loop-index.invariant.stands).0 none) in
-    rw c.from.ensures
-    (ended (world_in c.args.machine.now) (past_in c.loop-index.machine) c.args.count c.loop-index.index c.loop-index.rest.now turns (omega arith) (c.loop-index.invariant.left turns are) c.loop-index.invariant.done over)
-
-pub returns-in-Some-step : goal.returns-in-Some-step
-returns-in-Some-step c = λ turns are.
-    let some : IsNone c.step.result → ⊥ = search rules in
-    let on = λ (over : IsOver asks (world_in c.args.machine.now) (past_in c.loop-index.machine)).
-    some ((c.step.ensures.over c.loop-index.invariant.stands).1 (subst (λ (w : World). IsOver asks w (past_in c.loop-index.machine)) (sym c.loop-index.invariant.world) over)) in
-    rw c.bad_after-in-Some-step.ensures
-    (unended (world_in c.args.machine.now) (past_in c.loop-index.machine) c.args.count c.loop-index.index c.loop-index.rest.now turns (omega arith) (c.loop-index.invariant.left turns are) c.loop-index.invariant.done on)
+pub returns : goal.returns
+returns c =
+    let w = world_in c.args.machine.now in
+    let past = past_in c.loop-index.machine in
+    let stands = c.loop-index.invariant.stands in
+    let same = c.loop-index.invariant.world in
+    let all : c.loop-index.index ≡ c.args.count = omega arith in
+    let over = λ (none : IsNone c.step-2.result). subst (λ (w : World). IsOver asks w past) same ((c.step-2.ensures.over stands).0 none) in
+    let extends = subst (λ (w : World). IfSome c.step-2.result (λ turn. Extends asks w past turn)) same (c.step-2.ensures.extends stands) in
+    let told = c.verdict_behind.ensures w past (c.loop-index.invariant.done ∙ all) (next-is w past c.step-2.result over extends) in
+    let none : 0 ≡ c.args.count - c.loop-index.index = omega arith in
+    c.loop-index.invariant.told _
+    (subst (λ (n : ℕ). IsTold w past (c.args.count - c.loop-index.index) (n + 1) c.loop-index.rest.now c.verdict_behind.result) (sym all)
+    (subst (λ (n : ℕ). IsTold w past n (c.args.count + 1) c.loop-index.rest.now c.verdict_behind.result) none told))

@@ -1,8 +1,7 @@
-use Rattle.std.proofs.Common.{◌≡◌, List, length}
-use Rattle.p8_access.specs.declared.order.Turn.{Turn}
+use Rattle.std.proofs.Common.{◌≡◌, ◌+◌, ◌-◌, [], length}
 use Rattle.p8_machine.specs.Machines.{world_in, past_in, IsStanding}
-use Rattle.p8_verify.specs.Files.{AreRecords}
-use Rattle.p8_verify.proofs.Walking.{Left}
+use Rattle.p8_verify.specs.declared.verdicts.Verdict.{Verdict}
+use Rattle.p8_verify.specs.Told.{IsTold}
 use Rattle.p8_verify.proofs.verdicts.walk.Given as goal
 
 abbrev pub invariant-loop-index : goal.invariant-loop-index
@@ -10,5 +9,5 @@ invariant-loop-index l = record {
   stands : IsStanding l.machine;
   world : world_in l.machine ≡ world_in l.fn.machine;
   done : length (past_in l.machine) ≡ l.index;
-  left : (turns : List Turn) → AreRecords l.count l.records turns → Left (world_in l.fn.machine) (past_in l.machine) l.count l.index l.rest turns;
+  told : (v : Verdict) → IsTold (world_in l.fn.machine) (past_in l.machine) (l.count - l.index) (l.index + 1) l.rest v → IsTold (world_in l.fn.machine) [] l.count 1 l.records v;
 }
