@@ -10,7 +10,7 @@ use Rattle.p8_hub.specs.Parts.{ors, driven}
 use Rattle.p8_view.specs.declared.cogs.Cogs.{Cogs}
 use Rattle.p8_view.specs.declared.drives.Drives.{Drives}
 use Rattle.p8_view.specs.Drives.{drives_of}
-use Rattle.p8_view.specs.Following.{AreCogs}
+use Rattle.p8_view.specs.Following.{AreParts}
 
 -- the one of a cog
 nth : {X : Type 0} (f : ℕ → X) (d : X) (n : ℕ) → n < 8 → get_or (map f cogs) n d ≡ f n
@@ -34,7 +34,7 @@ or_assoc a b c = same_from_bits _ _ (λ i. simp bit_at_or (omega arith))
 ors_all : (f : ℕ → ℕ) → ors (map f cogs) ≡ or_all f cogs
 ors_all f = simp (or_assoc, or_zero_r)
 
-module _ (w : World) (past : List Turn) (c : Cogs) (are : AreCogs w past c) where
+module _ (w : World) (past : List Turn) (c : Cogs) (are : AreParts w past c) where
   told_dira : ors c.dira ≡ dira past
   unfolding dira
   told_dira = ap ors are.dira ∙ ors_all (λ (n : ℕ). dira_of past n)

@@ -1,4 +1,5 @@
 mod Eights
+mod Driving
 mod Ranges
 mod Showing
 mod Joined

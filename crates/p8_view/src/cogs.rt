@@ -5,7 +5,7 @@ ghost use Rattle.p8_access.specs.Worlds.{World};
 ghost use Rattle.p8_access.specs.Hub.{cog_state, origin_of};
 ghost use Rattle.p8_view.specs.Drives.{drives_of};
 ghost use Rattle.p8_view.specs.View.{loading, left_after};
-ghost use Rattle.p8_view.specs.Following.{AreCogs};
+ghost use Rattle.p8_view.specs.Following.{AreParts, AreCogs, may_drive};
 ghost use Rattle.p8_hub.specs.Parts.{ors, driven};
 
 use crate::drives::Drives;
@@ -26,6 +26,8 @@ pub struct Cogs {
     pub left: [u16; 8],
     pub outa: [u32; 8],
     pub dira: [u32; 8],
+    /// What they do to the pins, which most turns leave as it is.
+    pub drives: Drives,
 }
 
 /// Puts an item at a place of eight; where there is no such place nothing changes.
@@ -49,6 +51,10 @@ impl Cogs {
             left: [0; 8],
             outa: [0; 8],
             dira: [0; 8],
+            drives: Drives {
+                directions: 0,
+                high: 0,
+            },
         }
     }
 
@@ -72,9 +78,28 @@ impl Cogs {
     pub fn drives(&self) -> Drives
         ensures { (w : World) (past : List Turn) → AreCogs w past self.now → result ≡ drives_of past }
     {
+        self.drives
+    }
+
+    /// What the cogs do to the pins, by their registers.
+    fn joined(&self) -> Drives
+        ensures { (w : World) (past : List Turn) → AreParts w past self.now → result ≡ drives_of past }
+    {
         Drives {
             directions: self.directions(),
             high: self.high(),
+        }
+    }
+
+    /// What the cogs do to the pins after an access, of which all else is noted.
+    fn drives_after(&self, access: &Access) -> Drives
+        ensures { (w : World) (past : List Turn) (turn : Turn) → turn.access ≡ access.now → AreParts w (turn ∷ past) self.now →
+            self.now.drives ≡ drives_of past → result ≡ drives_of (turn ∷ past) }
+    {
+        if may_drive(access) {
+            self.joined()
+        } else {
+            self.drives
         }
     }
 
@@ -102,6 +127,7 @@ impl Cogs {
         ensures left { self.new.left ≡ self.old.left }
         ensures outa { self.new.outa ≡ slice_set self.old.outa cog 0 }
         ensures dira { self.new.dira ≡ slice_set self.old.dira cog 0 }
+        ensures drives { self.new.drives ≡ self.old.drives }
     {
         put(&mut self.origins, cog, origin);
         put(&mut self.outa, cog, 0);
@@ -112,6 +138,16 @@ impl Cogs {
     pub fn note(&mut self, turn: &Turn)
         requires { turn.now.key.cog < 8 }
         ensures { (w : World) (past : List Turn) → AreCogs w past self.old → AreCogs w (turn.now ∷ past) self.new }
+    {
+        self.note_parts(turn);
+        self.drives = self.drives_after(&turn.access);
+    }
+
+    /// Takes note of a turn, but for what the cogs do to the pins.
+    fn note_parts(&mut self, turn: &Turn)
+        requires { turn.now.key.cog < 8 }
+        ensures parts { (w : World) (past : List Turn) → AreCogs w past self.old → AreParts w (turn.now ∷ past) self.new }
+        ensures drives { self.new.drives ≡ self.old.drives }
     {
         let cog = turn.key.cog;
         let left = left_after(&turn.access, self.left[usize::from(cog)]);
@@ -151,5 +187,19 @@ fn left_after(access: &Access, left: u16) -> u16
         Access::Load => LONGS,
         Access::Begin => 0,
         _ => left.saturating_sub(1),
+    }
+}
+
+/// Whether an access may change what the cogs do to the pins.
+fn may_drive(access: &Access) -> bool
+    ensures { result ≡ may_drive access.now }
+{
+    match access {
+        Access::CogInit { .. }
+        | Access::CogStop { .. }
+        | Access::OutSet { .. }
+        | Access::DirSet { .. }
+        | Access::Halt { .. } => true,
+        _ => false,
     }
 }

@@ -28,7 +28,7 @@ pub(crate) fn rate_of(boot: &Boot) -> u32
 }
 
 /// The last three decimal digits of a number.
-fn three_digits(number: u128) -> [u8; 3]
+fn three_digits(number: u64) -> [u8; 3]
     ensures { result ≡ three_digits number }
 {
     [
@@ -38,8 +38,15 @@ fn three_digits(number: u128) -> [u8; 3]
     ]
 }
 
+/// The same, of a number of twice the size.
+fn last_digits(number: u128) -> [u8; 3]
+    ensures { result ≡ three_digits number }
+{
+    three_digits((number % 1000) as u64)
+}
+
 /// Appends so many nanoseconds, in microseconds.
-fn push_micro(out: &mut Vec<u8>, nanoseconds: u128) -> Result<(), NoMemory>
+fn push_micro(out: &mut Vec<u8>, nanoseconds: u64) -> Result<(), NoMemory>
     ensures { OnOk result (out.new.items ≡ out.old.items ++ micro_text nanoseconds) }
 {
     push_text(out, Buffer::new().format(nanoseconds / 1000).as_bytes())?;
@@ -48,6 +55,20 @@ fn push_micro(out: &mut Vec<u8>, nanoseconds: u128) -> Result<(), NoMemory>
     push_text(out, b" us ")
 }
 
+/// The same, of a number of twice the size. It is never inlined: no run of a program comes so far.
+#[inline(never)]
+fn push_long_micro(out: &mut Vec<u8>, nanoseconds: u128) -> Result<(), NoMemory>
+    ensures { OnOk result (out.new.items ≡ out.old.items ++ micro_text nanoseconds) }
+{
+    push_text(out, Buffer::new().format(nanoseconds / 1000).as_bytes())?;
+    push_text(out, b".")?;
+    push_text(out, &last_digits(nanoseconds))?;
+    push_text(out, b" us ")
+}
+
+/// The last clock whose nanoseconds at 1 Hz have 64 bits.
+const FAR: u64 = 18_446_744_073;
+
 /// Appends the time at a clock of a frequency in Hz; nothing where that is 0.
 pub(crate) fn push_time(out: &mut Vec<u8>, frequency: u32, clock: u64) -> Result<(), NoMemory>
     ensures { OnOk result (out.new.items ≡ out.old.items ++ time_text frequency clock) }
@@ -55,7 +76,11 @@ pub(crate) fn push_time(out: &mut Vec<u8>, frequency: u32, clock: u64) -> Result
     if frequency == 0 {
         return Ok(());
     }
-    push_micro(
+    // A division of 64 bits takes a tenth of one of 128.
+    if clock <= FAR {
+        return push_micro(out, clock * 1_000_000_000 / u64::from(frequency));
+    }
+    push_long_micro(
         out,
         u128::from(clock) * 1_000_000_000 / u128::from(frequency),
     )
