@@ -41,6 +41,7 @@ fn put<T: Copy>(eight: &mut [T; 8], place: u8, item: T)
 
 impl Cogs {
     /// Before any turn: cog 0 was started with this, and the others are stopped.
+    #[tactic(auto, unfolding(p8_access::specs::Pins::dira, p8_access::specs::Pins::outputs))]
     pub fn open(first: Origin) -> Cogs
         ensures { (w : World) → w.first ≡ first → AreCogs w [] result }
     {
