@@ -39,6 +39,14 @@ def marked(content, line, column):
     return f"{shown_line(content, line)[left : left + 100]}\n{' ' * (column - 1 - left)}^\n".encode()
 
 
+SCRIPT_TOLD = b"A pin script is told by prop help run: it has a line for each change, as 9000 00000001, a clock and 8 hexadecimal digits for the pins.\n"
+
+
+def begins_with_clock(content):
+    """Whether a file whose name doesn't end in `.spin` is most likely a pin script."""
+    return bool(re.match(rb"(?:[ \r\n]|#[^\n]*\n)*[0-9]", content))
+
+
 # Pin scripts
 
 
@@ -130,11 +138,11 @@ class Trace:
 
     def __init__(self, text, clocks, most):
         self.turns = []
-        for line in text.split(b"\n"):
-            if line.startswith(b"ended"):
+        for line in text.decode().split("\n"):
+            if line.startswith("ended"):
                 break
-            clock, cog, rest = line.split(b" ", 2)
-            self.turns.append((int(clock), int(cog), rest.split()))
+            clock, cog, *words = line.split(" ")
+            self.turns.append((int(clock), int(cog), words))
         self.last = self.turns[-1][0] if self.turns else 0
         self.is_full = len(self.turns) == most
         self.clocks = clocks
@@ -151,50 +159,54 @@ class Trace:
         return [(clock, cog) for clock, cog, _ in self.turns]
 
 
-def shown_keys(trace):
-    """The clocks and cogs of the turns that a view shows: all but the reads of a load, which are the 496 accesses behind it."""
-    left, keys = [0] * 8, []
-    for clock, cog, (access, *_) in trace.turns:
-        is_read = left[cog] > 0 and access in (b"rdbyte", b"rdword", b"rdlong")
-        left[cog] = 496 if access == b"load" else 0 if access == b"begin" else max(left[cog] - 1, 0)
-        if not is_read:
-            keys.append((clock, cog))
-    return keys
-
-
 def dump_of(text):
     """The bytes of the dump at the end of a trace."""
     rows = re.findall(rb"^[0-9A-F]{4}:((?: [0-9A-F]{2})+)$", text, re.M)
     return bytes.fromhex(b"".join(rows).decode())
 
 
-def levels(trace, script, pin):
-    """The level of a pin at clock 0, and each later clock at which it changes."""
+def drives(trace):
+    """The pins that are outputs and of those the ones that are high, at clock 0 and behind each turn that may change them."""
     outputs, directions = [0] * 8, [0] * 8
-    now, driven = (0, 0), {}
+    found = [(0, 0, 0)]
     for clock, cog, (access, *rest) in trace.turns:
-        if access == b"outa":
+        if access == "outa":
             outputs[cog] = int(rest[0], 16)
-        elif access == b"dira":
+        elif access == "dira":
             directions[cog] = int(rest[0], 16)
-        elif access in (b"cogstop", b"coginit", b"halt"):
-            cleared = cog if access == b"halt" else 8 if rest[0] == b"none" else int(rest[0])
+        elif access in ("cogstop", "coginit", "halt"):
+            cleared = cog if access == "halt" else 8 if rest[0] == "none" else int(rest[0])
             if cleared < 8:
                 outputs[cleared] = directions[cleared] = 0
         else:
             continue
-        state = any(it >> pin & 1 for it in directions), any(
-            out & made & (1 << pin) for out, made in zip(outputs, directions)
-        )
-        if state != now:
-            now = driven[clock] = state
-    events = sorted({0, *(clock for clock, _ in script), *driven})
-    found, outside, driver = [], 0, (0, 0)
+        made = high = 0
+        for out, direction in zip(outputs, directions):
+            made |= direction
+            high |= out & direction
+        found.append((clock, made, high))
+    return found
+
+
+def all_levels(trace, script):
+    """The 32 pins at clock 0, and at each later clock at which one changes."""
+    driven = {clock: (made, high) for clock, made, high in drives(trace)}
     given = dict(script)
-    for clock in events:
+    found, outside, (made, high) = [], 0, driven[0]
+    for clock in sorted({*driven, *given}):
         outside = given.get(clock, outside)
-        driver = driven.get(clock, driver)
-        level = int(driver[1] if driver[0] else outside >> pin & 1)
+        made, high = driven.get(clock, (made, high))
+        pins = high | outside & ~made
+        if not found or pins != found[-1][1]:
+            found.append((clock, pins))
+    return found
+
+
+def levels(pins, pin):
+    """The level of one of all pins at clock 0, and each later clock at which it changes."""
+    found = []
+    for clock, all_pins in pins:
+        level = all_pins >> pin & 1
         if not found or level != found[-1][1]:
             found.append((clock, level))
     return found
@@ -202,7 +214,7 @@ def levels(trace, script, pin):
 
 def serial_text(trace, script, pin, bits):
     """The bytes that stand on a pin."""
-    changes = levels(trace, script, pin)
+    changes = levels(all_levels(trace, script), pin)
     clocks = [clock for clock, _ in changes]
     edges = [clock for clock, level in changes[1:] if level == 0]
     half, begin, lines, good = bits // 2, 0, [], 0
@@ -263,9 +275,9 @@ def picture(trace, script, view, frequency=0):
     end = min(last, trace.end)
     width = max(1, -(-(end - first) // columns))
     starts = list(range(first, end, width))
-    lines = []
+    lines, shown = [], all_levels(trace, script)
     for pin in sorted(pins):
-        changes = levels(trace, script, pin)
+        changes = levels(shown, pin)
         clocks = [clock for clock, _ in changes]
         row = f"P{pin}".ljust(4)
         for start in starts:
@@ -297,18 +309,8 @@ def blocks_of(page):
 
 def page_pins(trace, script):
     """Each clock of a run at which a pin isn't what it was before, with the 32 pins from it on, as a page has them; before clock 0 all are low."""
-    changed = {}
-    for pin in range(32):
-        before = 0
-        for clock, level in levels(trace, script, pin):
-            if clock < trace.end and level != before:
-                changed[clock] = changed.get(clock, 0) | 1 << pin
-            before = level
-    pins, lines = 0, []
-    for clock in sorted(changed):
-        pins ^= changed[clock]
-        lines.append(f"{clock} {pins:08X}\n")
-    return "".join(lines).encode()
+    changes = [(clock, pins) for clock, pins in all_levels(trace, script) if clock < trace.end]
+    return "".join(f"{clock} {pins:08X}\n" for clock, pins in changes if clock > 0 or pins).encode()
 
 
 def page_windows(first):

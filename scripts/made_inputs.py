@@ -3,11 +3,13 @@ and command lines, well formed or damaged."""
 
 import re
 import struct
+from random import Random
 
 import expected
 
 CHIP_CLOCKS = ("rcfast", "rcslow", "xtal1", "xtal1 + pll16x", "xinput", "xtal3 + pll2x", "xtal2 + pll1x")
 ASSIGNED = "+= -= *= /= //= &= |= ^= <<= >>= ~>= ->= <-= #>= <#= >= <= <>= ===".split()
+UNARY, BINARY = list(expected.UNARY), list(expected.BINARY)
 MNEMONICS = (
     "ror rol shr shl rcr rcl sar rev mins maxs min max movs movd movi and andn or xor muxc muxnc muxz muxnz add sub "
     "addabs subabs sumc sumnc sumz sumnz mov neg abs absneg negc negnc negz negnz cmps cmpsx addx subx adds subs addsx "
@@ -17,8 +19,35 @@ OF_THE_HUB = [
     "wrlong t, u", "rdlong t, u", "rdbyte t, #4", "locknew t", "cogid t", "lockset t", "mov outa, t", "mov dira, t"
 ]
 CONDITIONS = "if_z if_nz if_c if_nc if_c_and_z if_nc_or_z if_always if_c_eq_z if_a if_be".split()
+PLAIN, SHORT = re.compile(r"[\w$%]+"), re.compile(r"[a-z]\w?")
 TOKEN = re.compile(r"[A-Za-z_]\w*|[$%]*\d\w*|\"[^\"\n]*\"|\r\n|\s+|.", re.S)
 ODD_BYTES = b"\0\t\n\r\x1a !\"#$%'()*,.:;=?@[\\]{|}~\x80\xfe\xff09azAZ_"
+
+
+class Draws(Random):
+    """Gives what `Random` gives of a seed, with less between a call and the generator."""
+
+    def randrange(self, first, behind=None):
+        if behind is None:
+            first, behind = 0, first
+        most = behind - first
+        if most < 1:
+            raise ValueError(f"nothing is from {first} to {behind}")
+        bits = most.bit_length()
+        found = self.getrandbits(bits)
+        while found >= most:
+            found = self.getrandbits(bits)
+        return first + found
+
+    def choice(self, some):
+        most = len(some)
+        if most == 0:
+            raise IndexError("nothing is there to choose from")
+        bits = most.bit_length()
+        found = self.getrandbits(bits)
+        while found >= most:
+            found = self.getrandbits(bits)
+        return some[found]
 
 
 class Names:
@@ -231,12 +260,12 @@ class Spin:
             text = self.value(depth)
             return f"({text})" if ":=" in text else text
         if pick < 0.45:
-            return f"({self.random.choice(list(expected.UNARY))}{self.operand(depth - 1)})"
-        return f"({self.operand(depth - 1)} {self.random.choice(list(expected.BINARY))} {self.operand(depth - 1)})"
+            return f"({self.random.choice(UNARY)}{self.operand(depth - 1)})"
+        return f"({self.operand(depth - 1)} {self.random.choice(BINARY)} {self.operand(depth - 1)})"
 
     def operand(self, depth):
         text = self.expression(depth)
-        return text if text[0] == "(" or re.fullmatch(r"[\w$%]+", text) else f"({text})"
+        return text if text[0] == "(" or PLAIN.fullmatch(text) else f"({text})"
 
     def statement(self, column):
         random, before = self.random, " " * column
@@ -337,10 +366,10 @@ def constant(random, depth):
         value = random.choice([*some, 0xFFFFFFFF, 0x80000000, 0x7FFFFFFF])
         return str(value), value
     if pick < 0.4:
-        operator = random.choice(list(expected.UNARY))
+        operator = random.choice(UNARY)
         text, value = constant(random, depth - 1)
         return f"({operator}{text})", expected.UNARY[operator](value) % expected.WORDS
-    operator = random.choice(list(expected.BINARY))
+    operator = random.choice(BINARY)
     left, one = constant(random, depth - 1)
     right, other = constant(random, depth - 1)
     if operator in ("/", "//") and other == 0:
@@ -368,7 +397,7 @@ def project(random):
 def damage_names(random, text):
     """The text with some of its words put in the place of others, so that mostly it still is read."""
     tokens = TOKEN.findall(text)
-    words = [at for at, token in enumerate(tokens) if re.fullmatch(r"[a-z]\w?", token)]
+    words = [at for at, token in enumerate(tokens) if SHORT.fullmatch(token)]
     for _ in range(random.choice([1, 1, 2, 3])):
         if words:
             tokens[random.choice(words)] = random.choice(

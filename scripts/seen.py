@@ -1,6 +1,8 @@
 """Maps, views and the waves of cogs and locks, as docs/FORMATS.md has them, made once more in Python: from a trace, and from what `map`
 and `list` say of the program."""
 
+import functools
+import itertools
 import re
 
 SIZES = {"byte": 1, "word": 2, "long": 4}
@@ -223,9 +225,15 @@ def asked_text(names, access, rest):
     return turn_text(names, access, rest[:1] if access in ("lockset", "lockclr") else rest)
 
 
+# The accesses that may change what the cogs drive.
+CHANGING = "outa", "dira", "coginit", "cogstop", "halt"
+
+
 def pins_text(before, after):
     """The pins that change, and what they are then."""
     text = ""
+    if before == after:
+        return text
     for pin in range(32):
         was, now = ([it >> pin & 1 for it in drives] for drives in (before, after))
         if was != now:
@@ -238,20 +246,19 @@ def time_text(clock, frequency):
     return f"{nanoseconds // 1000}.{nanoseconds % 1000:03} us " if frequency else ""
 
 
-def decoded(trace):
-    return [(clock, cog, [it.decode() for it in words]) for clock, cog, words in trace.turns]
-
-
 def view_lines(trace, names, frequency):
     """For each turn that a view shows its clock, its cog, whether it changes pins, what asks it, and its line without the place; and the cogs
     at the end."""
     cogs, lines = Cogs(), []
-    for turn in decoded(trace):
+    drives = cogs.drives()
+    for turn in trace.turns:
         clock, cog, (access, *rest) = turn
-        before = cogs.drives()
         if cogs.take(turn):
             continue
-        changes = pins_text(before, cogs.drives())
+        before = drives
+        if access in CHANGING:
+            drives = cogs.drives()
+        changes = pins_text(before, drives)
         text = f"{clock} {time_text(clock, frequency)}cog {cog} {turn_text(names, access, rest)}{changes}"
         lines.append((clock, cog, bool(changes), (cogs.is_pasm[cog], access), text))
     return lines, cogs
@@ -273,7 +280,7 @@ def end_text(cogs, cog):
 
 def next_turn(trace, done, cog):
     """The next turn of a cog after so many of a trace, or None where there is none, or it is started or stopped before."""
-    for clock, number, (access, *rest) in decoded(trace)[done:]:
+    for clock, number, (access, *rest) in itertools.islice(trace.turns, done, None):
         if number == cog:
             return clock, access, rest
         if access in ("coginit", "cogstop") and rest[0] == str(cog):
@@ -294,16 +301,23 @@ def next_fault(told, turn, names, place):
     return not nothing or int(nothing[1]) > clock
 
 
+@functools.lru_cache(8)
+def lines_of(content):
+    return re.split(rb"\r\n|\r|\n", content)
+
+
+@functools.lru_cache(8)
 def heads_of(content):
     """The heads of the methods of a source, as line and name."""
-    lines = re.split(rb"\r\n|\r|\n", content)
-    found = [(at, re.match(rb"(?i)(?:pub|pri)\b[ \t]*(\w*)", line)) for at, line in enumerate(lines, 1)]
+    found = [(at, re.match(rb"(?i)(?:pub|pri)\b[ \t]*(\w*)", line)) for at, line in enumerate(lines_of(content), 1)]
     return [(at, head[1].decode("latin-1")) for at, head in found if head]
 
 
 def with_local(line, text, names):
     """What is due of a line of a view that tells a local of the method in its place; else that. The stack of cog 0 lies behind all names, or is
     called so; that of another cog lies in a variable of any name."""
+    if line.startswith(text) and line[len(text) : len(text) + 1] in ("", " ", ","):
+        return text
     place = r"(?:[0-9A-F]{4}|(?:\S+\.)?stack(?:\+\d+)?)" if re.match(r"\d+ (?:[\d.]+ us )?cog 0 ", text) else r"\S+"
     due = re.fullmatch(rf"((?:.* )?(?:read|write) (?:byte|word|long) ){place}((?: = .*)?)", text)
     told = re.fullmatch(r"(?:.* )?(?:read|write) (?:byte|word|long) (\w+\.\w+)((?:\+\d+)?)(?: .*)? (\w+)", line)
@@ -340,7 +354,7 @@ def is_place(text, files, asks):
     if access in ("load", "begin"):
         return False
     if is_pasm:
-        lines = re.split(rb"\r\n|\r|\n", files[place[1]])
+        lines = lines_of(files[place[1]])
         return not place[3] and 1 <= int(place[2]) <= len(lines) and may_ask(lines[int(place[2]) - 1], access)
     before = [name for line, name in heads_of(files[place[1]]) if line <= int(place[2])]
     return bool(before) and before[-1] == place[3][1:]
@@ -377,23 +391,25 @@ STATES = {"starts": 1, "runs": 2, "halts": 3, "stops": 0, "idle": 0}
 def cog_changes(trace):
     """The registers and states of the cogs and the locks: for each its value at clock 0, and each later clock at which it changes."""
     cogs, taken, is_set = Cogs(), [0] * 8, [0] * 8
-    found = {}
+    names = "cog{}.outa", "cog{}.dira", "cog{}.state", "locks.lock{}", "locks.taken{}"
+    found = {name.format(cog): [] for name in names for cog in range(8)}
+    before = [None] * len(found)
 
     def note(clock):
-        values = {}
-        for cog in range(8):
-            values[f"cog{cog}.outa"], values[f"cog{cog}.dira"] = cogs.outputs[cog], cogs.directions[cog]
-            values[f"cog{cog}.state"] = STATES[cogs.doings[cog][0]]
-            values[f"locks.lock{cog}"], values[f"locks.taken{cog}"] = is_set[cog], taken[cog]
-        for name, value in values.items():
-            changes = found.setdefault(name, [])
+        values = [
+            *cogs.outputs, *cogs.directions, *(STATES[doing[0]] for doing in cogs.doings), *is_set, *taken,
+        ]  # fmt: skip
+        for (name, changes), value, was in zip(found.items(), values, before):
+            if value == was:
+                continue
             if changes and changes[-1][0] == clock:
                 changes.pop()
             if not changes or changes[-1][1] != value:
                 changes.append((clock, value))
+        before[:] = values
 
     note(0)
-    for turn in decoded(trace):
+    for turn in trace.turns:
         clock, _, (access, *rest) = turn
         cogs.take(turn)
         if access == "locknew" and rest[0] != "none":

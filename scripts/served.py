@@ -2,7 +2,8 @@
 system that fail.
 
 The program is kept at the door of its `main` by served.c, which is compiled into a folder that goes with the process.
-What runs is the file that was named, as it is.
+What runs is the file that was named, as it is: a run by one thread in which nothing fails is carried out in the process
+that is kept there, from the same begin each time, any other one in a child of it.
 """
 
 import os
@@ -15,7 +16,10 @@ from typing import NamedTuple
 
 HERE = os.path.dirname(os.path.realpath(__file__))
 ROOT = os.path.dirname(HERE)
-ANSWER = struct.Struct("<iii")
+LENGTH, ANSWER = struct.Struct("<I"), struct.Struct("<iiiII")
+
+# Bytes of an answer that are taken at once.
+MOST_AT_ONCE = 1 << 17
 
 # Seconds of processor time, and seconds that pass, after which a run is ended by a signal.
 PROCESSOR, PASSED = 20, 300
@@ -30,11 +34,11 @@ class Failing(NamedTuple):
 
 
 class Step(NamedTuple):
-    """A run: the program's words, and the file of the folder into which its output goes; no other run of a request
-    writes that file. Nothing is read back from a device, whose path is whole."""
+    """A run: the program's words, and the file of the folder into which its output goes, if one is to. Nothing is read
+    back from a device, whose path is whole."""
 
     words: list
-    out: str = "out"
+    out: str = ""
     failing: Failing = Failing()
 
 
@@ -59,9 +63,9 @@ class Served:
         self.bounds = str(processor), str(passed)
         library = os.path.join(self.folder, "served.so")
         source = os.path.join(HERE, "served.c")
-        subprocess.run(["cc", "-O2", "-shared", "-fPIC", "-o", library, source, "-ldl"], check=True)
+        subprocess.run(["cc", "-O2", "-shared", "-fPIC", "-Wl,-z,now", "-o", library, source, "-ldl"], check=True)
         ours, theirs = socket.socketpair()
-        self.socket = ours
+        self.socket, self.items, self.begun = ours, [], memoryview(bytearray(MOST_AT_ONCE))
         self.program = subprocess.Popen(
             [self.path_of_program],
             cwd=self.folder,
@@ -90,29 +94,50 @@ class Served:
         with open(self.path(name), "rb") as file:
             return file.read()
 
+    def put_later(self, name, content):
+        """Puts a file before the next run."""
+        self.items.append(b"put\0%s\0%d\0%s" % (name.encode(), len(content), content))
+
     def run(self, steps):
         """Makes the runs one after the other, and gives what each left; the output of one may be a file of the next."""
-        fields = []
-        for place, step in enumerate(steps):
-            words = [os.fsencode(word) for word in step.words]
-            kind, call = step.failing
-            told = [step.out, f"told{place}", *self.bounds, kind, str(call), str(len(words))]
-            fields += [field.encode() for field in told] + words
-        request = b"".join(field + b"\0" for field in fields)
-        self.socket.sendall(struct.pack("<I", len(request)) + request)
-        return [self.left(place, step) for place, step in enumerate(steps)]
+        for words, out, (kind, call) in steps:
+            fields = ["run", out, *self.bounds, kind, str(call), str(len(words)), *words, ""]
+            self.items.append(os.fsencode("\0".join(fields)))
+        request = b"".join(self.items)
+        self.items = []
+        self.socket.sendall(LENGTH.pack(len(request)) + request)
+        return list(parted(self.answer()))
 
-    def left(self, place, step):
-        told = b""
-        while len(told) < ANSWER.size:
-            more = self.socket.recv(ANSWER.size - len(told))
-            if not more:
-                raise RuntimeError("the program that is kept at its door has gone")
-            told += more
-        ended, microseconds, calls = ANSWER.unpack(told)
+    def answer(self):
+        """The answers to a request, which come behind their length."""
+        answer = self.received()
+        if not is_whole(answer):
+            answer = bytearray(answer)
+            while not is_whole(answer):
+                answer += self.received()
+        return bytes(answer)
+
+    def received(self):
+        size = self.socket.recv_into(self.begun)
+        if size == 0:
+            raise RuntimeError("the program that is kept at its door has gone")
+        return bytes(self.begun[:size])
+
+
+def is_whole(answer):
+    return len(answer) >= LENGTH.size and len(answer) == LENGTH.size + LENGTH.unpack_from(answer)[0]
+
+
+def parted(answers):
+    """What each run left, by the answers behind their length."""
+    at = LENGTH.size
+    while at < len(answers):
+        ended, microseconds, calls, output, told = ANSWER.unpack_from(answers, at)
+        begin = at + ANSWER.size
+        middle = begin + output
+        at = middle + told
         status = -os.WTERMSIG(ended) if os.WIFSIGNALED(ended) else os.WEXITSTATUS(ended)
-        out = b"" if os.path.isabs(step.out) else self.get(step.out)
-        return Left(status, out, self.get(f"told{place}"), microseconds / 1e6, calls)
+        yield Left(status, answers[begin:middle], answers[middle:at], microseconds / 1e6, calls)
 
 
 def status_text(status):
