@@ -60,7 +60,7 @@ class Served:
         self.kept = tempfile.TemporaryDirectory(prefix="prop-", dir=room)
         self.folder = self.kept.name
         self.path_of_program = os.path.realpath(program)
-        self.bounds = str(processor), str(passed)
+        self.bounds = f"{processor}\0{passed}"
         library = os.path.join(self.folder, "served.so")
         source = os.path.join(HERE, "served.c")
         subprocess.run(["cc", "-O2", "-shared", "-fPIC", "-Wl,-z,now", "-o", library, source, "-ldl"], check=True)
@@ -101,8 +101,8 @@ class Served:
     def run(self, steps):
         """Makes the runs one after the other, and gives what each left; the output of one may be a file of the next."""
         for words, out, (kind, call) in steps:
-            fields = ["run", out, *self.bounds, kind, str(call), str(len(words)), *words, ""]
-            self.items.append(os.fsencode("\0".join(fields)))
+            fields = ["run", out, self.bounds, kind, str(call), str(len(words)), *words, ""]
+            self.items.append("\0".join(fields).encode("utf-8", "surrogateescape"))
         request = b"".join(self.items)
         self.items = []
         self.socket.sendall(LENGTH.pack(len(request)) + request)
