@@ -392,13 +392,14 @@ static int find_data(struct dl_phdr_info *info, size_t, void *) {
   uintptr_t begin = 0, behind = 0;
   for (int at = 0; at < info->dlpi_phnum; at++) {
     const ElfW(Phdr) *part = &info->dlpi_phdr[at];
-    if (part->p_type == PT_GNU_RELRO)
-      begin = part->p_vaddr + part->p_memsz;
-    else if (part->p_type == PT_LOAD && part->p_flags & PF_W)
-      behind = part->p_vaddr + part->p_memsz;
+    uintptr_t part_end = part->p_vaddr + part->p_memsz;
+    if (part->p_type == PT_LOAD && part->p_flags & PF_W)
+      begin = part->p_vaddr, behind = part_end;
+    else if (part->p_type == PT_GNU_RELRO && part_end > begin)
+      begin = part_end;
   }
   data = (char *)info->dlpi_addr + begin;
-  data_size = behind - begin;
+  data_size = behind > begin ? behind - begin : 0;
   if (data_size > sizeof data_before)
     end(1);
   memcpy(data_before, data, data_size);
