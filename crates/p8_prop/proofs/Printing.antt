@@ -15,14 +15,13 @@ use Rattle.p8_inputs.specs.declared.stop.Stop.{Stop}
 use Rattle.p8_inputs.specs.declared.stop.Stop.TheVariants as stop
 use Rattle.p8_commands.specs.declared.table.Subcommand.TheVariants as named
 use Rattle.p8_commands.specs.Commands.{Command, Running, BuildSource, ListSource, CodeSource, CodeImage, MapSource, HintSource, ExplainFile, ExplainNumber, RunMemory, RunProgram, Save, Check, Serial as ReadPin, TypeFile, Wave as ShowWave, Plot as DrawPins, ViewRun, PageRun, Convert, Make, Help, has_flag, said_to, command_of, alone_of}
-use Rattle.p8_commands.specs.Table.{run_entry}
 use Rattle.p8_prop.specs.declared.status.Status.{Status}
 use Rattle.p8_prop.specs.declared.status.Status.TheVariants as status
 use Rattle.p8_prop.specs.Headline as whole
 use Rattle.p8_prop.specs.Headline.{IsRun, IsHeadline}
 use Rattle.p8_prop.specs.Verdicts.{Outside, Verdict, unsaid, stopped, unexplained, bad, written, unwritten, stop_status, status_of, IsVerdict, IsOut}
 use Rattle.p8_prop.specs.Promises.{HasHeadline, Keeps}
-use Rattle.p8_prop.specs.Runs.{value_in, format_said, IsRunOf, IsTraceOf, PrintsRaw, PrintsRun, PrintsHistory}
+use Rattle.p8_prop.specs.Runs.{run_app, value_in, format_said, IsRunOf, IsTraceOf, PrintsRaw, PrintsRun, PrintsHistory}
 use Rattle.p8_prop.specs.RunLaws.{AreOfRun, IsCommandOf, RunsPrintTheirHistory}
 use Rattle.p8_prop.proofs.Imaging.{told-by}
 use Rattle.p8_prop.proofs.SaidRuns.{said-raw, said-run, command-raw, command-run}
@@ -133,8 +132,8 @@ prints-run : (files : Files) (words : List Text) (is : Command) (text : List ℕ
 prints-run files words is text said headline =
     let it = said-run words is said in
     let run = it.0 in
-    let alone = has_flag (codes "alone") (value_in run_entry words) in
-    let short = has_flag (codes "short") (value_in run_entry words) in
+    let alone = has_flag (codes "alone") (value_in run_app words) in
+    let short = has_flag (codes "short") (value_in run_app words) in
     let printed : IsHeadline files (RunProgram alone short run) text = subst (λ (c : Command). IsHeadline files c text) (sym (same_Some _ _ it.2)) headline in
     (run, it.1, traced files (format_said words run) run text printed)
 

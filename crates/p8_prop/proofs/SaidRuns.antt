@@ -7,9 +7,9 @@ use Rattle.clap.specs.Walk.{Text}
 use Rattle.p8_commands.specs.declared.kind.ImageKind.{ImageKind}
 use Rattle.p8_commands.specs.declared.table.Subcommand.TheVariants as named
 use Rattle.p8_commands.specs.Kinds.{kind_named}
-use Rattle.p8_commands.specs.Table.{app_for, raw_entry, run_entry, subcommand_named}
+use Rattle.p8_commands.specs.Table.{subcommand_named}
 use Rattle.p8_commands.specs.Commands.{Command, Running, RunMemory, RunProgram, faultless, has_flag, meaning_of, program_of, run_named, said_to, command_of, traced_of}
-use Rattle.p8_prop.specs.Runs.{SayRun, value_in}
+use Rattle.p8_prop.specs.Runs.{SayRun, raw_app, run_app, value_in}
 
 none-not_some : {A : Type 0} {a : A} → None ≡ Some a → ⊥
 none-not_some e = cc
@@ -34,23 +34,23 @@ named-run alone true run None command e = e
 named-run alone false run kind command e = e
 
 pub said-raw : (words : List Text) (command : Command) → said_to named.Raw words ≡ Some command
-    → (run : Running) × SayRun raw_entry words run × (Some (RunMemory run) ≡ Some command)
+    → (run : Running) × SayRun raw_app words run × (Some (RunMemory run) ≡ Some command)
 unfolding said_to
 said-raw words command e =
-    let value = value_in raw_entry words in
-    let said = faultless-some (fault_of (app_for raw_entry) words) (meaning_of named.Raw value) command e in
+    let value = value_in raw_app words in
+    let said = faultless-some (fault_of raw_app words) (meaning_of named.Raw value) command e in
     let traced = map-some RunMemory (traced_of value) command said.1 in
     (traced.0, (said.0, traced.1), traced.2)
 
 pub said-run : (words : List Text) (command : Command) → said_to named.Run words ≡ Some command
-    → (run : Running) × SayRun run_entry words run
-    × (Some (RunProgram (has_flag (codes "alone") (value_in run_entry words)) (has_flag (codes "short") (value_in run_entry words)) run) ≡ Some command)
+    → (run : Running) × SayRun run_app words run
+    × (Some (RunProgram (has_flag (codes "alone") (value_in run_app words)) (has_flag (codes "short") (value_in run_app words)) run) ≡ Some command)
 unfolding said_to
 said-run words command e =
-    let value = value_in run_entry words in
+    let value = value_in run_app words in
     let alone = has_flag (codes "alone") value in
     let short = has_flag (codes "short") value in
-    let said = faultless-some (fault_of (app_for run_entry) words) (meaning_of named.Run value) command e in
+    let said = faultless-some (fault_of run_app words) (meaning_of named.Run value) command e in
     let traced = then-some (program_of alone short) (traced_of value) command said.1 in
     (traced.0, (said.0, traced.1), named-run alone short traced.0 (kind_named traced.0.file) command traced.2)
 
