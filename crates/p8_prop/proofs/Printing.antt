@@ -101,9 +101,9 @@ said-some words command is (inr same) e = alone-some (command_of words) is (sym 
 
 run-of : (files : Files) (format : Format) (file bytes : List ℕ) (w : World) (past : List Turn) → IsProgram files format file bytes
     → whole.IsToldBySource files format file bytes w past → IsRunOf files format file bytes w past
-run-of files Memory file bytes w past program told = program
-run-of files Image file bytes w past program told = program
-run-of files Eeprom file bytes w past program told = program
+run-of files Memory file bytes w past program told = program.0
+run-of files Image file bytes w past program told = program.0
+run-of files Eeprom file bytes w past program told = program.0
 run-of files (Source short) file bytes w past program told = told-by files short file bytes w past told
 
 traced : (files : Files) (format : Format) (run : Running) (text : List ℕ) → IsRun files format run (Trace run.dump) text → IsTraceOf files format run text

@@ -19,7 +19,7 @@ use Rattle.p8_commands.specs.Commands.{Running, has_flag, traced_of}
 use Rattle.p8_inputs.specs.declared.program.Format.{Format}
 use Rattle.p8_inputs.specs.declared.program.Format.TheVariants.{Memory, Source}
 use Rattle.p8_inputs.specs.Inputs.{IsScriptFor}
-use Rattle.p8_inputs.specs.Programs.{fault_of as load_fault, format_named, world_of}
+use Rattle.p8_inputs.specs.Programs.{format_named, world_of}
 use Rattle.p8_prop.specs.Headline.{IsOneHistory}
 use Rattle.p8_prop.specs.Images.{IsImageOf}
 
@@ -66,10 +66,11 @@ pub record IsCompiledFrom (files : Files) (short : Bool) (top bytes : List ℕ) 
   pub image : IsImageOf short sources children compiled objects bytes
   pub lives : SpinIsTold (program_of sources children compiled) (addresses_of sources compiled objects) w past
 
--- these bytes are what is run of a file: the image of a source, by which lives are told, or else those of the file, which is good as what it is taken for
+-- These bytes are what is run of a file: the image of a source, by which lives are told, or else those of the file. Which bytes are no image is no
+-- part of it: what is run is one.
 abbrev pub IsRunOf : Files → Format → (file bytes : List ℕ) → World → List Turn → Type 0
 IsRunOf files (Source short) file bytes w past = IsCompiledFrom files short file bytes w past
-IsRunOf files format file bytes w past = IsRead files file bytes × (load_fault format bytes ≡ None)
+IsRunOf files format file bytes w past = IsRead files file bytes
 
 -- this text is the trace of the one history of a run, whose file is taken for this
 pub record IsTraceOf (files : Files) (format : Format) (run : Running) (text : List ℕ) : Type 0 where
