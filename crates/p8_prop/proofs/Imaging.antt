@@ -28,6 +28,7 @@ use Rattle.p8_inputs.specs.declared.program.Format.TheVariants.{Source as source
 use Rattle.p8_prop.specs.Headline as whole
 use Rattle.p8_prop.specs.Images.{HasKinds, HasData, HasCode, HasShortCode, IsCompilation, AreCompilations}
 use Rattle.p8_prop.specs.Runs.{IsCompiledFrom}
+use Rattle.p8_prop.proofs.Sourcing.{grows}
 
 -- ---- a file
 
@@ -126,7 +127,7 @@ told-by files false top bytes w past (sources, clock, objects, from, is, lives) 
     let built = from.built in
     record {
       sources = sources;
-      gathered = from.gathered;
+      gathered = grows from.gathered;
       children = built.children;
       compiled = built.compiled;
       objects = objects;
@@ -146,7 +147,7 @@ told-by files true top bytes w past (sources, clock, objects, from, is, lives) =
     let same = same-programs sources built.children built.compiled built.short built.each built.shorter in
     record {
       sources = sources;
-      gathered = from.gathered;
+      gathered = grows from.gathered;
       children = built.children;
       compiled = built.short;
       objects = objects;

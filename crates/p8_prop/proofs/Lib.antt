@@ -6,6 +6,7 @@ mod Completing
 mod Doing
 mod Saving
 mod SaidRuns
+mod Sourcing
 mod Imaging
 mod Printing
 mod Answering

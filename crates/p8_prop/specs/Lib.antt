@@ -4,6 +4,7 @@ pub mod Headline
 pub mod Codes
 pub mod Verdicts
 pub mod Promises
+pub mod Sources
 pub mod Images
 pub mod Runs
 pub mod RunLaws

@@ -10,7 +10,6 @@ use Rattle.p8_tree.specs.Projects.{NamedSource}
 use Rattle.p8_kinds.specs.declared.children.Children.{Children}
 use Rattle.p8_image.specs.declared.parts.ObjectPart.{ObjectPart}
 use Rattle.p8_io.specs.Shelves.{Files, IsRead}
-use Rattle.p8_objects.specs.Growing.{IsProjectOf}
 use Rattle.p8_build.specs.Files.{CompiledFile}
 use Rattle.p8_compiled.specs.Told.{SpinIsTold}
 use Rattle.p8_opt.specs.Programs.{program_of, addresses_of}
@@ -21,6 +20,7 @@ use Rattle.p8_inputs.specs.declared.program.Format.TheVariants.{Memory, Source}
 use Rattle.p8_inputs.specs.Inputs.{IsScriptFor}
 use Rattle.p8_inputs.specs.Programs.{format_named, world_of}
 use Rattle.p8_prop.specs.Headline.{IsOneHistory}
+use Rattle.p8_prop.specs.Sources.{IsProjectOf}
 use Rattle.p8_prop.specs.Images.{IsImageOf}
 
 -- ---- the words, by the rules of `clap`
