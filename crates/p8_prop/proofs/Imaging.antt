@@ -29,11 +29,13 @@ use Rattle.p8_prop.specs.Headline as whole
 use Rattle.p8_prop.specs.Images.{HasKinds, HasData, HasCode, HasShortCode, IsCompilation, AreCompilations}
 use Rattle.p8_prop.specs.Runs.{IsCompiledFrom}
 use Rattle.p8_prop.proofs.Sourcing.{grows}
+use Rattle.p8_prop.proofs.Naming.{AreClean, setting-is, beside, children-are}
 
 -- ---- a file
 
 kinds-of : (source : Source) (children : Children) (top : Bool) (found : Kinds) → IsNamed source children top found → HasKinds source children found
-kinds-of source children top found named = record { setting = named.setting; right = named.right; each = named.each }
+kinds-of source children top found named =
+    record { setting = named.setting; right = setting-is source children top named.clean named.setting named.right; each = named.each }
 
 data-of : (source : Source) (children : Children) (x : CompiledFile) → IsData source children x → HasData source children x
 data-of source children x dat = record { bytes = dat.bytes; labels = dat.labels }
@@ -86,13 +88,11 @@ files-of : (files : List NamedSource) (children : List Children) (xs : List Comp
 files-of files children xs are =
     record { count = are.count; each = λ i file seen x at has. file-of file.tree seen (i == 0) x (are.each i file seen x at has) }
 
--- beside an element of a list stands one of another list of the same length
-beside : (xs ys : List CompiledFile) (i : ℕ) (y : CompiledFile) → length ys ≡ length xs → slice_get ys i ≡ Some y → (x : CompiledFile) × (slice_get xs i ≡ Some x)
-beside [] [] i y long has = absurd (cc)
-beside [] (z ∷ ys) i y long has = absurd (omega (arith, long))
-beside (x ∷ xs) [] i y long has = absurd (omega (arith, long))
-beside (x ∷ xs) (z ∷ ys) zero y long has = (x, refl)
-beside (x ∷ xs) (z ∷ ys) (suc i) y long has = beside xs ys i y (omega (arith, long)) has
+-- and nothing is wrong with its names
+clean-of : (files : List NamedSource) (children : List Children) (xs : List CompiledFile) → AreCompiled files children xs → AreClean files children
+clean-of files children xs are i file seen at at' =
+    let it = beside xs files i file (sym are.count) at in
+    (i == 0, (are.each i file seen it.0 (record { stands = at; beside = at' }) it.1).names.clean)
 
 module _ (files : List NamedSource) (children : List Children) (xs ys : List CompiledFile) (are : AreCompiled files children xs) (short : AreShort files children xs ys) where
   short-files-of : AreCompilations true files children ys
@@ -132,7 +132,7 @@ told-by files false top bytes w past (sources, clock, objects, from, is, lives) 
       compiled = built.compiled;
       objects = objects;
       image = record {
-        seen = built.seen;
+        seen = children-are sources built.children (clean-of sources built.children built.compiled built.each) built.seen;
         compiled = files-of sources built.children built.compiled built.each;
         laid_out = built.objects_are;
         clock = clock;
@@ -152,7 +152,7 @@ told-by files true top bytes w past (sources, clock, objects, from, is, lives) =
       compiled = built.short;
       objects = objects;
       image = record {
-        seen = built.seen;
+        seen = children-are sources built.children (clean-of sources built.children built.compiled built.each) built.seen;
         compiled = short-files-of sources built.children built.compiled built.short built.each built.shorter;
         laid_out = built.objects_are;
         clock = clock;

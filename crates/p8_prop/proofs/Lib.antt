@@ -7,6 +7,7 @@ mod Doing
 mod Saving
 mod SaidRuns
 mod Sourcing
+mod Naming
 mod Imaging
 mod Printing
 mod Answering

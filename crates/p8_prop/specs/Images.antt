@@ -9,9 +9,7 @@ use Rattle.p8_kinds.specs.declared.kinds.Kinds.{Kinds}
 use Rattle.p8_fold.specs.Meanings.{Setting}
 use Rattle.p8_kinds.specs.Kinds.{own}
 use Rattle.p8_constants.specs.FileItems.{items}
-use Rattle.p8_names.specs.Settings.{IsSetting}
 use Rattle.p8_names.specs.Kinds.{kinds, methods, numbered}
-use Rattle.p8_names.specs.Children.{AreChildren}
 use Rattle.p8_dat.specs.Blocks.{dat_bytes, placed_lines}
 use Rattle.p8_dat.specs.Labels.{labels_of}
 use Rattle.p8_gen.specs.Methods.{bytes_of, method_code}
@@ -28,6 +26,7 @@ use Rattle.p8_image.specs.Layout.{image_of}
 use Rattle.p8_build.specs.Parts.{data_start}
 use Rattle.p8_build.specs.Files.{CompiledFile, setting_of, method_names}
 use Rattle.p8_build.specs.Builds.{IsFile, objects_of, clock_by}
+use Rattle.p8_prop.specs.Names.{IsSetting, AreChildren}
 
 -- ---- a file: what it sees of its objects is at hand
 

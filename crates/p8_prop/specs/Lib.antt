@@ -5,6 +5,7 @@ pub mod Codes
 pub mod Verdicts
 pub mod Promises
 pub mod Sources
+pub mod Names
 pub mod Images
 pub mod Runs
 pub mod RunLaws
