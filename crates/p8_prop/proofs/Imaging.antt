@@ -1,5 +1,5 @@
 -- An accepted project has its image, with short code or without, and the program by which its lives are told.
-use Rattle.std.proofs.Common.{◌≡◌, ◌∙◌, sym, ap, subst, refl, arith, ℕ, zero, suc, Bool, true, false, ◌==◌, List, [], ◌∷◌, length, slice_get, Some}
+use Rattle.std.proofs.Common.{◌≡◌, ◌∙◌, sym, ap, subst, refl, arith, ℕ, Bool, true, false, ◌==◌, List, [], ◌∷◌, length}
 use Rattle.std.specs.Prelude.{codes}
 use Rattle.p8_access.specs.declared.order.Turn.{Turn}
 use Rattle.p8_access.specs.Worlds.{World}

@@ -22,7 +22,7 @@ use Rattle.p8_fold.proofs.Agreeing.{value_same}
 use Rattle.p8_constants.specs.Items.{Term, Sum, value_term, step_term, zero_sum, sum_of, stepped, after, with_name, named_from, definitions_from, definitions, definition, with_term, terms_in, expressions_from, expressions}
 use Rattle.p8_constants.specs.Mentions.{Mentions, FormMentions, VariableMentions, TreesMention}
 use Rattle.p8_constants.specs.Constants.{Scope, scope_of, Means, from_outside, nothing, circular, constant, IsRightFor, right, Adds, none, further, Has, has, counted}
-use Rattle.p8_constants.proofs.Agreeing.{agree}
+use Rattle.p8_constants.proofs.Agreeing.{Alike, agree}
 use Rattle.p8_constants.proofs.OneValue.{has_one}
 use Rattle.p8_constants.proofs.Graphs.{option_cases}
 use Rattle.p8_constants.proofs.Listing.{contains_here, contains_there}
@@ -198,16 +198,16 @@ module _ (file : Source) (children : Children) (top : Bool) (clean : (f : Fault)
   Stands e = Contains (expressions file) e
 
   mean-is : (e : Term) (n : List ℕ) (x : Option Meaning) → Means c e n x → (x ≡ Some Other → ⊥) → x ≡ s.name n
-  mean-is e n x (from_outside h) no = sym (is.others n (is-some h) ∙ h)
-  mean-is e n x (nothing h d) no = sym (is.nothing n h d)
-  mean-is e n x (circular u h) no = absurd (no refl)
-  mean-is e n x (constant {v = v} u h value) no =
-      let it = is.constants n (h, has-some value) in
-      ap (λ (v : ℕ). Some (Value v)) (has_one c n v it.0 value it.2) ∙ sym it.1
+  mean-is e n x (from_outside h) never = sym (is.others n (is-some h) ∙ h)
+  mean-is e n x (nothing h d) never = sym (is.nothing n h d)
+  mean-is e n x (circular u h) never = absurd (never refl)
+  mean-is e n x (constant {v = v} u h known) never =
+      let it = is.constants n (h, has-some known) in
+      ap (λ (v : ℕ). Some (Value v)) (has_one c n v it.0 known it.2) ∙ sym it.1
 
   term-is : (e : Term) (t : Setting) → IsRightFor c e t → Stands e → value t e.tree ≡ value s e.tree
   term-is e t (right means constants here) stands =
-      let same = record { constants = λ object n. constants object n ∙ sym (is.behind object n); here = here ∙ sym is.here } in
+      let same : Alike t s = record { constants = λ object n. constants object n ∙ sym (is.behind object n); here = here ∙ sym is.here } in
       value_same t s e.tree (agree t s same e.tree (λ n at. mean-is e n (t.name n) (means n at) (λ other.
       let it = other-fault t n other e.tree at in
       clean it.0 (of_constant (record { expression = e; stands = stands; setting = t; right = right means constants here; fault = it.1 })))))
@@ -245,11 +245,11 @@ module _ (file : Source) (children : Children) (top : Bool) (clean : (f : Fault)
 
 -- beside an element of a list stands one of another list of the same length
 pub beside : {A B : Type 0} (xs : List A) (ys : List B) (i : ℕ) (y : B) → length ys ≡ length xs → slice_get ys i ≡ Some y → (x : A) × (slice_get xs i ≡ Some x)
-beside [] [] i y long has = absurd (cc)
-beside [] (z ∷ ys) i y long has = absurd (omega (arith, long))
-beside (x ∷ xs) [] i y long has = absurd (omega (arith, long))
-beside (x ∷ xs) (z ∷ ys) zero y long has = (x, refl)
-beside (x ∷ xs) (z ∷ ys) (suc i) y long has = beside xs ys i y (omega (arith, long)) has
+beside [] [] i y long there = absurd (cc)
+beside [] (z ∷ ys) i y long there = absurd (omega (arith, long))
+beside (x ∷ xs) [] i y long there = absurd (omega (arith, long))
+beside (x ∷ xs) (z ∷ ys) zero y long there = (x, refl)
+beside (x ∷ xs) (z ∷ ys) (suc i) y long there = beside xs ys i y (omega (arith, long)) there
 
 -- nothing is wrong with the names of any file
 abbrev pub AreClean : List NamedSource → List Children → Type 0

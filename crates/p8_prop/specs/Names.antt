@@ -1,6 +1,6 @@
 -- What the names of a file mean where a constant is needed, and what it sees of the files of its objects (Propeller Manual v1.2, "CON" and "OBJ" of the
 -- Spin chapter). A constant may be used before its line. That none needs itself is no part of it: what is run was accepted.
-use Rattle.std.specs.Prelude.{◌≡◌, ℕ, ◌+◌, ◌%◌, ◌^◌, List, [], ◌∷◌, length, Option, Some, option_map, slice_get}
+use Rattle.std.specs.Prelude.{◌≡◌, ℕ, ◌+◌, ◌%◌, ◌^◌, List, [], ◌∷◌, length, Some, option_map, slice_get}
 use Rattle.std.specs.Option.{option_or}
 use Rattle.p8_tree.specs.Sources as trees
 use Rattle.p8_tree.specs.Sources.{Source}

@@ -1,5 +1,5 @@
 -- What `run` and `raw` print (this project's profile). Nothing of other commands is said here or below.
-use Rattle.std.specs.Prelude.{◌≡◌, ◌⊎◌, Bool, true, List, [], ◌∷◌, ◌++◌, fold, Option, Some, None, ℕ, codes}
+use Rattle.std.specs.Prelude.{◌≡◌, ◌⊎◌, Bool, true, List, [], ◌∷◌, ◌++◌, fold, Option, Some, ℕ, codes}
 use Rattle.clap.specs.declared.builder.action.ArgAction.TheVariants.{SetTrue}
 use Rattle.clap.specs.Faults.{fault_of}
 use Rattle.clap.specs.Simple.{App, matches_of, new_app, new_rule, with_rule}
