@@ -10,6 +10,11 @@ WORDS = {"rd": "read", "wr": "write"}
 ADDRESSES = 1 << 16
 
 
+def lines_in(text):
+    """The lines of a text; in a string of a map may stand what `splitlines` takes for the end of one."""
+    return text.removesuffix("\n").split("\n") if text else []
+
+
 # Maps
 
 
@@ -38,7 +43,7 @@ def map_rows(text):
 def code_ends(listing):
     """Where the codes of each object end, or its `DAT` where it has no methods, by its file, as the listing has it."""
     ends, file = {}, None
-    for line in listing.decode("latin-1").splitlines():
+    for line in lines_in(listing.decode("latin-1")):
         words = line.split(" ")
         if words[0] == "object":
             file = words[1]
@@ -119,27 +124,29 @@ class Names:
 
 def map_faults(rows, image, listing):
     """What a map says otherwise than the image and the listing do."""
-    faults, file, base, bases, expected_offset = [], None, 0, {}, 0
+    faults, file, base, end, bases, expected_offset = [], None, 0, 0, {}, 0
     for place, kind, rest in rows:
         if kind == "object":
             bases[rest] = place
     instances = {rest.split("* ")[0]: place for place, kind, rest in rows if kind == "instance"}
     variables_at = int.from_bytes(image[8:10], "little")
-    lines = {int(line[:4], 16): line for line in listing.decode("latin-1").splitlines() if re.match(r"[0-9A-F]{4} ", line)}
+    lines = {int(line[:4], 16): line for line in lines_in(listing.decode("latin-1")) if re.match(r"[0-9A-F]{4} ", line)}
     ends = code_ends(listing)
     for place, kind, rest in rows:
         if kind == "object":
-            file, base = rest, place
+            # Behind its head and its table it has nothing where it has no methods and no bytes.
+            file, base, end = rest, place, max(ends[rest], place + 4)
         elif kind == "child":
             name, of = rest.split(" ")
+            end = max(end, place + 4)
             way, to_variables = (int.from_bytes(image[place + at : place + at + 2], "little") for at in (0, 2))
             if (base + way) % ADDRESSES != bases[of]:
                 faults.append(f"child {name} of {file} leads to {(base + way) % ADDRESSES:04X}")
             if base == 0x10 and name + "." in instances and (variables_at + to_variables) % ADDRESSES != instances[name + "."]:
                 faults.append(f"variables of {name} at {(variables_at + to_variables) % ADDRESSES:04X}")
         elif kind == "label":
-            is_inside = base < place <= ends[file]
-            has_line = place % 4 or place in lines or place == ends[file]
+            is_inside = base < place <= end
+            has_line = place % 4 or place in lines or place == end
             if not (is_inside and (has_line or rest.endswith((" byte", " word")))) and not any(
                 kind == "method" and at == place for at, kind, _ in rows
             ):
