@@ -6,6 +6,7 @@ mod Completing
 mod Doing
 mod Saving
 mod SaidRuns
+mod Lining
 mod Sourcing
 mod Naming
 mod Imaging

@@ -1,32 +1,37 @@
 -- Which bytes are a source, with which tree, and which files a project has (Propeller Manual v1.2, "Spin Language Reference": the block designators, and
 -- "OBJ"; what it leaves open is this project's profile). How much of anything there may be (how high an expression, how deep blocks, how many objects
--- and files) and whether NEXT and QUIT stand in a loop is no part of it: what is run was accepted.
+-- and files), whether NEXT and QUIT stand in a loop, and which operands and effects an instruction has, is no part of it: what is run was accepted.
 --
 -- A file is blocks, one after the other. A block is its word in column 1 with what stands after it, and further lines. The lines of a method are its
 -- statements by their columns. Ends of lines may stand between lines.
-use Rattle.std.specs.Prelude.{◌≡◌, ℕ, ◌<◌, ◌≤◌, Bool, false, ◌&&◌, IsTrue, List, [], ◌∷◌, ◌++◌, length, Option, Some}
+use Rattle.std.specs.Prelude.{◌≡◌, ◌⊎◌, ℕ, ◌<◌, ◌≤◌, Bool, true, false, ◌&&◌, not, if◌then◌else◌, List, [], ◌∷◌, ◌++◌, length, map, Option, Some, None, is_some, nat_lt}
+use Rattle.std.specs.List.{list_any, list_all}
+use Rattle.p8_tree.specs.Expressions.{Tree}
 use Rattle.p8_tree.specs.Sources as sources
 use Rattle.p8_tree.specs.Sources.{Constant, Declared, Child, MethodTree, BlockTree, Source}
 use Rattle.p8_tree.specs.Projects.{NamedSource}
 use Rattle.p8_tree.specs.Statements.{Statements}
+use Rattle.p8_instr.specs.Mnemonics.{entry_of, mnemonics}
 use Rattle.p8_lexer.specs.declared.token.Token.{Token}
+use Rattle.p8_lexer.specs.declared.word.Word.{Word}
 use Rattle.p8_lexer.specs.declared.word.Word.TheVariants as words
+use Rattle.p8_lexer.specs.Words.{spelling}
 use Rattle.p8_lexer.specs.Lexing.{longest_file, AreTokens}
-use Rattle.p8_lexer.specs.Pieces.{Piece}
+use Rattle.p8_lexer.specs.Pieces.{Piece, tree}
+use Rattle.p8_grammar.specs.Lexemes.{Setting, in_method, in_declaration, in_dat, in_data_item, in_action}
+use Rattle.p8_grammar.specs.Grammar.{IsExpression}
 use Rattle.p8_columns.specs.Lines as lines
 use Rattle.p8_columns.specs.Lines.{Kind}
 use Rattle.p8_columns.specs.Blocks.{AreStatements}
-use Rattle.p8_lines.specs.declared.state.State.{State}
-use Rattle.p8_lines.specs.declared.state.State.TheVariants as state
-use Rattle.p8_lines.specs.Tokens.{LineToken, all_tokens, word}
-use Rattle.p8_lines.specs.Lines.{Row}
+use Rattle.p8_lines.specs.Signs.{is_size}
+use Rattle.p8_lines.specs.Tokens.{LineToken, all_tokens, word, piece, label_piece, terms}
 use Rattle.p8_declarations.specs.Constants.{constants_of_row}
 use Rattle.p8_declarations.specs.Variables.{variables_of_row}
 use Rattle.p8_declarations.specs.Objects.{objects_of_row}
 use Rattle.p8_declarations.specs.Methods.{method_of_row}
+use Rattle.p8_declarations.specs.DataParts.{Part, other, text, part_of_piece}
 use Rattle.p8_statements.specs.Statements.{kind_of_row}
-use Rattle.p8_blocks.specs.Values.{begins_line}
-use Rattle.p8_blocks.specs.Files.{lines_of_row, is_item, begins_text, IsHead, method_word, first_block}
+use Rattle.p8_blocks.specs.Files.{lines_of_row, IsHead, method_word, first_block}
 use Rattle.p8_io.specs.Shelves.{Files}
 use Rattle.p8_objects.specs.Lists.{HasOne}
 use Rattle.p8_objects.specs.Projects.{IsIn, HasOpen, IsNext}
@@ -34,24 +39,68 @@ use Rattle.p8_objects.specs.Outcomes.{HasBytes, named}
 
 -- ---- lines
 
--- these tokens are a line that is read from this state on, and this is what it says
-abbrev pub IsLine : {X : Type 0} → State → (List Piece → Option X) → X → List LineToken → Type 0
-IsLine q value x ts = (row : List Piece) × Row q row ts × (value row ≡ Some x)
+-- how an expression is spelled in a line, by the words before it, the last one first, and the word behind it
+abbrev pub Spelling : Type 0
+Spelling = List Word → Word → Setting
 
--- the lines of a block that isn't a method, each read from the same state on, with all that they declare
-pub data Declare {X : Type 0} (q : State) (value : List Piece → Option (List X)) : List X → List LineToken → Type 0 where
-  no_line : Declare q value [] []
-  a_blank : {xs : List X} {ts : List LineToken} (t : LineToken) → word t ≡ words.LineEnd → Declare q value xs ts → Declare q value xs (ts ++ t ∷ [])
-  a_line : {xs ys : List X} {ts us : List LineToken} → IsLine q value ys us → Declare q value xs ts → Declare q value (xs ++ ys) (ts ++ us)
+-- These tokens are a line with these pieces, behind those with these words: words, names and whole expressions, up to the end of the line or to a colon.
+-- A label is told by its characters, whatever word it is.
+pub data Row (spelled : Spelling) : (before : List Word) → List Piece → List LineToken → Type 0 where
+  last : {before : List Word} (t : LineToken) → (word t ≡ words.LineEnd) ⊎ (word t ≡ words.Colon) → Row spelled before (piece t ∷ []) (t ∷ [])
+  a_token : {before : List Word} {row : List Piece} {ts : List LineToken} (t : LineToken) → (word t ≡ words.LineEnd → ⊥)
+      → Row spelled (word t ∷ before) row ts → Row spelled before (piece t ∷ row) (t ∷ ts)
+  a_label : {before : List Word} {row : List Piece} {ts : List LineToken} (t : LineToken) → Row spelled (words.Name ∷ before) row ts
+      → Row spelled before (label_piece t ∷ row) (t ∷ ts)
+  an_expression : {before : List Word} {row : List Piece} {ts : List LineToken} {e : Tree} (first : LineToken) (others : List LineToken) (t : LineToken)
+      → IsExpression (spelled before (word t)) e (terms (first ∷ others)) → Row spelled before row (t ∷ ts)
+      → Row spelled before (tree e first.place ∷ row) ((first ∷ others) ++ t ∷ ts)
 
--- The lines of a method, each with the place of its first token, and whether a line of the text is begun: after the colon of a CASE's item a line may
--- begin on the same line of the text.
-pub data AreLines : List lines.Line → Bool → List LineToken → Type 0 where
-  no_line : AreLines [] false []
-  a_blank : {ls : List lines.Line} {b : Bool} {ts : List LineToken} (t : LineToken) → word t ≡ words.LineEnd → AreLines ls b ts
-      → AreLines ls false (ts ++ t ∷ [])
-  a_line : {ls : List lines.Line} {b : Bool} {ts us : List LineToken} {k : Kind} (q : State) (t : LineToken) → IsTrue (begins_line q)
-      → begins_text q && b ≡ false → IsLine q kind_of_row k (t ∷ us) → AreLines ls b ts → AreLines (ls ++ lines.line t.place k ∷ []) (is_item k) (ts ++ t ∷ us)
+-- in CON, VAR and OBJ, and in the head of a method
+abbrev pub declared : Spelling
+declared before w = in_declaration
+
+abbrev pub headed : Spelling
+headed before w = in_method
+
+-- in a method, where an expression alone is a statement and no value
+abbrev pub in_text : Spelling
+in_text [] words.LineEnd = in_action
+in_text before w = in_method
+
+-- in DAT, where a datum has no brackets of its own: what stands in some behind it is its count
+abbrev pub is_open : List Word → Bool
+is_open (words.LeftBracket ∷ before) = true
+is_open before = false
+
+abbrev pub in_data : Spelling
+in_data before w = if list_any is_size before && not (is_open before) then in_data_item else in_dat
+
+-- these tokens are a line, and this is what it says
+abbrev pub IsLine : {X : Type 0} → Spelling → (List Piece → Option X) → X → List LineToken → Type 0
+IsLine spelled value x ts = (row : List Piece) × Row spelled [] row ts × (value row ≡ Some x)
+
+-- a line of DAT, in which what isn't a word of DAT itself is that of an instruction, and a string of one character is an expression
+abbrev pub is_known : Part → Bool
+is_known (other w p) = is_some (entry_of mnemonics (spelling w))
+is_known (text t p) = nat_lt 1 (length t)
+is_known x = true
+
+abbrev pub data_of_row : List Piece → Option (List sources.Line)
+data_of_row row = if list_all is_known (map part_of_piece row) then lines_of_row row else None
+
+-- the lines of a block that isn't a method, with all that they declare
+pub data Declare {X : Type 0} (spelled : Spelling) (value : List Piece → Option (List X)) : List X → List LineToken → Type 0 where
+  no_line : Declare spelled value [] []
+  a_blank : {xs : List X} {ts : List LineToken} (t : LineToken) → word t ≡ words.LineEnd → Declare spelled value xs ts
+      → Declare spelled value xs (ts ++ t ∷ [])
+  a_line : {xs ys : List X} {ts us : List LineToken} → IsLine spelled value ys us → Declare spelled value xs ts → Declare spelled value (xs ++ ys) (ts ++ us)
+
+-- the lines of a method, each with the place of its first token
+pub data AreLines : List lines.Line → List LineToken → Type 0 where
+  no_line : AreLines [] []
+  a_blank : {ls : List lines.Line} {ts : List LineToken} (t : LineToken) → word t ≡ words.LineEnd → AreLines ls ts → AreLines ls (ts ++ t ∷ [])
+  a_line : {ls : List lines.Line} {ts us : List LineToken} {k : Kind} (t : LineToken) → IsLine in_text kind_of_row k (t ∷ us) → AreLines ls ts
+      → AreLines (ls ++ lines.line t.place k ∷ []) (ts ++ t ∷ us)
 
 -- ---- blocks
 
@@ -61,23 +110,22 @@ with_body m ss = record m { body = ss }
 
 -- these tokens are this block
 pub data IsBlock : BlockTree → List LineToken → Type 0 where
-  con : {xs ys : List Constant} {us vs : List LineToken} (t : LineToken) → IsHead words.Con t → IsLine state.ConHead constants_of_row xs us
-      → Declare state.ConItem constants_of_row ys vs → IsBlock (sources.Con (xs ++ ys)) (t ∷ (us ++ vs))
-  var : {xs ys : List Declared} {us vs : List LineToken} (t : LineToken) → IsHead words.Var t → IsLine state.VarHead variables_of_row xs us
-      → Declare state.VarLine variables_of_row ys vs → IsBlock (sources.Var (xs ++ ys)) (t ∷ (us ++ vs))
-  obj : {xs ys : List Child} {us vs : List LineToken} (t : LineToken) → IsHead words.Obj t → IsLine state.ObjHead objects_of_row xs us
-      → Declare state.ObjLine objects_of_row ys vs → IsBlock (sources.Obj (xs ++ ys)) (t ∷ (us ++ vs))
-  dat : {xs ys : List sources.Line} {us vs : List LineToken} (t : LineToken) → IsHead words.Dat t → IsLine state.DatHead lines_of_row xs us
-      → Declare state.DatLine lines_of_row ys vs → IsBlock (sources.Dat (xs ++ ys)) (t ∷ (us ++ vs))
-  method : {m : MethodTree} {ls : List lines.Line} {b : Bool} {ss : Statements} {us vs : List LineToken} (public : Bool) (t : LineToken)
-      → IsHead (method_word public) t → IsLine state.MethodName (method_of_row public) m us → AreLines ls b vs → AreStatements ss ls
-      → IsBlock (sources.Method (with_body m ss)) (t ∷ (us ++ vs))
+  con : {xs ys : List Constant} {us vs : List LineToken} (t : LineToken) → IsHead words.Con t → IsLine declared constants_of_row xs us
+      → Declare declared constants_of_row ys vs → IsBlock (sources.Con (xs ++ ys)) (t ∷ (us ++ vs))
+  var : {xs ys : List Declared} {us vs : List LineToken} (t : LineToken) → IsHead words.Var t → IsLine declared variables_of_row xs us
+      → Declare declared variables_of_row ys vs → IsBlock (sources.Var (xs ++ ys)) (t ∷ (us ++ vs))
+  obj : {xs ys : List Child} {us vs : List LineToken} (t : LineToken) → IsHead words.Obj t → IsLine declared objects_of_row xs us
+      → Declare declared objects_of_row ys vs → IsBlock (sources.Obj (xs ++ ys)) (t ∷ (us ++ vs))
+  dat : {xs ys : List sources.Line} {us vs : List LineToken} (t : LineToken) → IsHead words.Dat t → IsLine in_data data_of_row xs us
+      → Declare in_data data_of_row ys vs → IsBlock (sources.Dat (xs ++ ys)) (t ∷ (us ++ vs))
+  method : {m : MethodTree} {ls : List lines.Line} {ss : Statements} {us vs : List LineToken} (public : Bool) (t : LineToken) → IsHead (method_word public) t
+      → IsLine headed (method_of_row public) m us → AreLines ls vs → AreStatements ss ls → IsBlock (sources.Method (with_body m ss)) (t ∷ (us ++ vs))
 
 -- ---- files
 
 -- these tokens are a file with this tree; what stands before the first block's word is a CON, if it declares anything
 pub data IsFile : Source → List LineToken → Type 0 where
-  first : {xs : List Constant} {ts : List LineToken} → Declare state.ConItem constants_of_row xs ts → IsFile (first_block xs) ts
+  first : {xs : List Constant} {ts : List LineToken} → Declare declared constants_of_row xs ts → IsFile (first_block xs) ts
   one_more : {bs : Source} {b : BlockTree} {ts us : List LineToken} → IsFile bs ts → IsBlock b us → IsFile (bs ++ b ∷ []) (ts ++ us)
 
 -- these bytes are cut into tokens, and those are a file with this tree
