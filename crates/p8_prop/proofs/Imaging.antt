@@ -15,18 +15,21 @@ use Rattle.p8_gen.specs.Names.{Names, widened, wide_in}
 use Rattle.p8_stmt.specs.declared.code.MethodCode.{MethodCode}
 use Rattle.p8_stmt.specs.Jumps.{IsShortCode}
 use Rattle.p8_stmt.specs.Methods.{IsCodeOf, rebodied}
+use Rattle.p8_image.specs.declared.clocks.Clock.{Clock}
+use Rattle.p8_image.specs.declared.parts.ObjectPart.{ObjectPart}
 use Rattle.p8_image.specs.Clocks.{clock_of}
+use Rattle.p8_image.specs.Layout.{image_of}
 use Rattle.p8_names.specs.Resolution.{IsNamed}
 use Rattle.p8_build.specs.Files.{CompiledFile, IsData, IsCompiled, setting_of, method_names}
-use Rattle.p8_build.specs.Builds.{AreCompiled, clock_by, constant_named}
+use Rattle.p8_build.specs.Builds.{AreCompiled, IsBuilt, clock_by, constant_named}
 use Rattle.p8_compiled.specs.Told.{SpinIsTold}
 use Rattle.p8_opt.specs.Programs.{program_of, addresses_of}
-use Rattle.p8_opt.specs.Shorts.{IsShort, AreShort}
+use Rattle.p8_opt.specs.Shorts.{IsShort, AreShort, IsShortBuilt}
 use Rattle.p8_opt.proofs.Kept.{same-program}
 use Rattle.p8_io.specs.Shelves.{Files}
 use Rattle.p8_inputs.specs.declared.program.Format.TheVariants.{Source as source_format}
 use Rattle.p8_prop.specs.Headline as whole
-use Rattle.p8_prop.specs.Images.{HasKinds, HasData, HasCode, HasShortCode, IsCompilation, AreCompilations}
+use Rattle.p8_prop.specs.Images.{HasKinds, HasData, HasCode, HasShortCode, IsCompilation, AreCompilations, IsImageOf}
 use Rattle.p8_prop.specs.Runs.{IsCompiledFrom}
 use Rattle.p8_prop.proofs.Sourcing.{grows}
 use Rattle.p8_prop.proofs.Naming.{AreClean, setting-is, beside, children-are}
@@ -119,6 +122,30 @@ same-clock (f ∷ fs) (c ∷ cs) (x ∷ xs) (y ∷ ys) seen many short =
     ap (λ (k : Kinds). clock_of (constant_named k (codes "_CLKMODE")) (constant_named k (codes "_CLKFREQ")) (constant_named k (codes "_XINFREQ")))
     (short.each 0 f c x y (record { stands = refl; beside = refl }) refl refl).kinds
 
+-- ---- the image of an accepted project
+
+pub plain-image : (sources : List NamedSource) (clock : Clock) (objects : List ObjectPart) (bytes : List ℕ) (built : IsBuilt sources clock objects)
+    → bytes ≡ image_of clock objects → IsImageOf false sources built.children built.compiled objects bytes
+plain-image sources clock objects bytes built is = record {
+  seen = children-are sources built.children (clean-of sources built.children built.compiled built.each) built.seen;
+  compiled = files-of sources built.children built.compiled built.each;
+  laid_out = built.objects_are;
+  clock = clock;
+  clock_is = built.clock_is;
+  is = is;
+}
+
+pub short-image : (sources : List NamedSource) (clock : Clock) (objects : List ObjectPart) (bytes : List ℕ) (built : IsShortBuilt sources clock objects)
+    → bytes ≡ image_of clock objects → IsImageOf true sources built.children built.short objects bytes
+short-image sources clock objects bytes built is = record {
+  seen = children-are sources built.children (clean-of sources built.children built.compiled built.each) built.seen;
+  compiled = short-files-of sources built.children built.compiled built.short built.each built.shorter;
+  laid_out = built.objects_are;
+  clock = clock;
+  clock_is = same-clock sources built.children built.compiled built.short built.seen.one_each built.each.count built.shorter ∙ built.clock_is;
+  is = is;
+}
+
 -- ---- what is told by a source
 
 pub told-by : (files : Files) (short : Bool) (top bytes : List ℕ) (w : World) (past : List Turn) → whole.IsToldBySource files (source_format short) top bytes w past
@@ -131,14 +158,7 @@ told-by files false top bytes w past (sources, clock, objects, from, is, lives) 
       children = built.children;
       compiled = built.compiled;
       objects = objects;
-      image = record {
-        seen = children-are sources built.children (clean-of sources built.children built.compiled built.each) built.seen;
-        compiled = files-of sources built.children built.compiled built.each;
-        laid_out = built.objects_are;
-        clock = clock;
-        clock_is = built.clock_is;
-        is = is;
-      };
+      image = plain-image sources clock objects bytes built is;
       lives = lives;
     }
 told-by files true top bytes w past (sources, clock, objects, from, is, lives) =
@@ -151,13 +171,6 @@ told-by files true top bytes w past (sources, clock, objects, from, is, lives) =
       children = built.children;
       compiled = built.short;
       objects = objects;
-      image = record {
-        seen = children-are sources built.children (clean-of sources built.children built.compiled built.each) built.seen;
-        compiled = short-files-of sources built.children built.compiled built.short built.each built.shorter;
-        laid_out = built.objects_are;
-        clock = clock;
-        clock_is = same-clock sources built.children built.compiled built.short built.seen.one_each built.each.count built.shorter ∙ built.clock_is;
-        is = is;
-      };
+      image = short-image sources clock objects bytes built is;
       lives = subst (λ (program : Program). SpinIsTold program addresses w past) (sym same) lives;
     }

@@ -10,6 +10,12 @@ mod Lining
 mod Sourcing
 mod Naming
 mod Imaging
+mod OneNames
+mod OneView
+mod OneFile
+mod OneProject
+mod OneImage
+mod OneTrace
 mod Printing
 mod Answering
 mod Explaining

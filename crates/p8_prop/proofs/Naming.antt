@@ -63,7 +63,7 @@ module _ (t : Setting) (n : List ℕ) (other : t.name n ≡ Some Other) where
   no-address (Register address x q) m = refl
 
   mutual
-    other-fault : (e : Tree) → Mentions e n → (f : Fault) × FaultIn t e f
+    pub other-fault : (e : Tree) → Mentions e n → (f : Fault) × FaultIn t e f
     other-fault (node p form) m = other-in p form m
 
     other-in : (p : Place) (form : Form) → FormMentions form n → (f : Fault) × ((own_fault t p form ≡ Some f) ⊎ FaultInside t form f)
@@ -93,15 +93,15 @@ module _ (t : Setting) (n : List ℕ) (other : t.name n ≡ Some Other) where
 -- ---- the expressions for which a constant stands are among those of the file
 
 module _ (Good : Term → Type 0) where
-  abbrev All : List Term → Type 0
+  abbrev pub All : List Term → Type 0
   All [] = Unit {0}
   All (t ∷ ts) = Good t × All ts
 
-  abbrev Says : List (List ℕ × Sum) → Type 0
+  abbrev pub Says : List (List ℕ × Sum) → Type 0
   Says [] = Unit {0}
   Says (d ∷ ds) = All d.1.terms × Says ds
 
-  all-of : (ts : List Term) → ((t : Term) → Contains ts t → Good t) → All ts
+  pub all-of : (ts : List Term) → ((t : Term) → Contains ts t → Good t) → All ts
   all-of [] good = tt
   all-of (t ∷ ts) good = (good t (contains_here t ts), all-of ts (λ u at. good u (contains_there t ts u at)))
 
@@ -158,7 +158,7 @@ module _ (Good : Term → Type 0) where
   says-both [] es one other = other
   says-both (d ∷ ds) es one other = (one.0, says-both ds es one.1 other)
 
-  says-file : (file : Source) (k : ℕ) → All (expressions_from k file) → Says (definitions_from k file)
+  pub says-file : (file : Source) (k : ℕ) → All (expressions_from k file) → Says (definitions_from k file)
   says-file [] k all = tt
   says-file (Con xs ∷ bs) k all =
       let rest = expressions_from (k + length xs) bs in
@@ -174,13 +174,13 @@ module _ (Good : Term → Type 0) where
   found-by true one sum rest all later is = subst (λ (s : Sum). All s.terms) (same_Some _ _ is) all
   found-by false one sum rest all later is = later is
 
-  found : (ds : List (List ℕ × Sum)) (n : List ℕ) (sum : Sum) → Says ds → definition ds n ≡ Some sum → All sum.terms
+  pub found : (ds : List (List ℕ × Sum)) (n : List ℕ) (sum : Sum) → Says ds → definition ds n ≡ Some sum → All sum.terms
   found [] n sum says is = absurd cc
   found (d ∷ ds) n sum says is = found-by (bytes_eq n d.0) d.1 sum (definition ds n) says.0 (found ds n sum says.1) is
 
 -- ---- an accepted file
 
-is-some : {A : Type 0} {o : Option A} {a : A} → o ≡ Some a → IsSome o
+pub is-some : {A : Type 0} {o : Option A} {a : A} → o ≡ Some a → IsSome o
 is-some e = subst (λ o. IsSome o) (sym e) refl
 
 has-some : {c : Scope} {n : List ℕ} {v : ℕ} → Has c n v → IsSome (definition c.constants n)

@@ -1,6 +1,7 @@
 -- What a call with the words of `raw` or `run` has written.
 use Rattle.std.proofs.Common.{◌≡◌, ◌∙◌, sym, ap, subst, refl, inl, inr, Bool, true, false, List, [], ◌∷◌, Option, Some, None, ℕ}
 use Rattle.std.specs.Prelude.{codes}
+use Rattle.std.specs.Str.{bytes_eq}
 use Rattle.clap.specs.Walk.{Text}
 use Rattle.std.proofs.lemmas.Option.{same_Some}
 use Rattle.p8_io.specs.Shelves.{Files}
@@ -21,9 +22,10 @@ use Rattle.p8_prop.specs.Headline as whole
 use Rattle.p8_prop.specs.Headline.{IsRun, IsHeadline}
 use Rattle.p8_prop.specs.Verdicts.{Outside, Verdict, unsaid, stopped, unexplained, bad, written, unwritten, stop_status, status_of, IsVerdict, IsOut}
 use Rattle.p8_prop.specs.Promises.{HasHeadline, Keeps}
-use Rattle.p8_prop.specs.Runs.{run_app, value_in, format_said, IsRunOf, IsTraceOf, PrintsRaw, PrintsRun, PrintsHistory}
-use Rattle.p8_prop.specs.RunLaws.{AreOfRun, IsCommandOf, RunsPrintTheirHistory}
+use Rattle.p8_prop.specs.Runs.{raw_app, run_app, value_in, format_said, IsRunOf, IsTraceOf, PrintsRaw, PrintsRun, PrintsHistory}
+use Rattle.p8_prop.specs.RunLaws.{AreOfRun, IsCommandOf, HaveOneReading, RunsPrintTheirHistory}
 use Rattle.p8_prop.proofs.Imaging.{told-by}
+use Rattle.p8_prop.proofs.OneTrace.{one-run, one-trace}
 use Rattle.p8_prop.proofs.SaidRuns.{said-raw, said-run, command-raw, command-run}
 
 -- ---- status 0 tells that a text was written
@@ -149,7 +151,54 @@ prints files (word ∷ words) is text (inr run) said headline =
     let told = prints-run files (codes "run" ∷ words) is text (sym (command-run words) ∙ same) headline in
     inr (run, subst (λ (w : Text). PrintsRun files (w ∷ words) text) (sym run) told)
 
+-- ---- and they print nothing else
+
+apart : codes "raw" ≡ codes "run" → ⊥
+apart e = true-not_false (ap (λ (w : Text). bytes_eq w (codes "raw")) e)
+
+module _ (files : List ℕ → Option (List ℕ)) (one : HaveOneReading) where
+  only-raw : (words : List Text) (is : Command) (text other : List ℕ) → said_to named.Raw words ≡ Some is → IsHeadline (Some files) is text
+      → PrintsRaw (Some files) words other → other ≡ text
+  only-raw words is text other said headline (run, says, traced) =
+      let it = said-raw words is said in
+      let printed : IsHeadline (Some files) (RunMemory it.0) text =
+      subst (λ (c : Command). IsHeadline (Some files) c text) (sym (same_Some _ _ it.2)) headline in
+      let same : run ≡ it.0 = one-run (value_in raw_app words) it.0 run it.1.1 says.1 in
+      one-trace files one Memory it.0 text other printed (subst (λ (run : Running). IsTraceOf (Some files) Memory run other) same traced)
+
+  only-run : (words : List Text) (is : Command) (text other : List ℕ) → said_to named.Run words ≡ Some is → IsHeadline (Some files) is text
+      → PrintsRun (Some files) words other → other ≡ text
+  only-run words is text other said headline (run, says, traced) =
+      let it = said-run words is said in
+      let alone = has_flag (codes "alone") (value_in run_app words) in
+      let short = has_flag (codes "short") (value_in run_app words) in
+      let printed : IsHeadline (Some files) (RunProgram alone short it.0) text =
+      subst (λ (c : Command). IsHeadline (Some files) c text) (sym (same_Some _ _ it.2)) headline in
+      let same : run ≡ it.0 = one-run (value_in run_app words) it.0 run it.1.1 says.1 in
+      one-trace files one (format_said words it.0) it.0 text other printed
+      (subst (λ (run : Running). IsTraceOf (Some files) (format_said words run) run other) same traced)
+
+  only : (words : List Text) (is : Command) (text other : List ℕ) → AreOfRun words → command_of words ≡ Some is → IsHeadline (Some files) is text
+      → PrintsHistory (Some files) words other → other ≡ text
+  only [] is text other run said headline printed = absurd run
+  only (word ∷ words) is text other (inl raw) said headline (inl (again, printed)) =
+      let same : command_of (codes "raw" ∷ words) ≡ Some is = ap (λ (w : Text). command_of (w ∷ words)) (sym raw) ∙ said in
+      only-raw (codes "raw" ∷ words) is text other (sym (command-raw words) ∙ same) headline
+      (subst (λ (w : Text). PrintsRaw (Some files) (w ∷ words) other) raw printed)
+  only (word ∷ words) is text other (inl raw) said headline (inr (run, printed)) = absurd (apart (sym raw ∙ run))
+  only (word ∷ words) is text other (inr run) said headline (inl (raw, printed)) = absurd (apart (sym raw ∙ run))
+  only (word ∷ words) is text other (inr run) said headline (inr (again, printed)) =
+      let same : command_of (codes "run" ∷ words) ≡ Some is = ap (λ (w : Text). command_of (w ∷ words)) (sym run) ∙ said in
+      only-run (codes "run" ∷ words) is text other (sym (command-run words) ∙ same) headline
+      (subst (λ (w : Text). PrintsRun (Some files) (w ∷ words) other) run printed)
+
 pub runs-print : RunsPrintTheirHistory
 runs-print o words command run said keeps =
     let it = done o command keeps in
-    (it.1, it.3, prints o.shelf.files words it.0 it.1 run (said-some words command it.0 said it.2) it.4)
+    let is = said-some words command it.0 said it.2 in (
+      it.1,
+      it.3,
+      prints o.shelf.files words it.0 it.1 run is it.4,
+      λ one files other tells printed. only files one words it.0 it.1 other run is (subst (λ (shelf : Files). IsHeadline shelf it.0 it.1) tells it.4)
+          (subst (λ (shelf : Files). PrintsHistory shelf words other) tells printed),
+    )

@@ -86,7 +86,7 @@ file : {s : Source} {ts : List LineToken} → files.IsFile within_limits s ts �
 file (files.first rest) = said.first (con-lines rest)
 file (files.one_more before last) = said.one_more (file before) (block last)
 
-source : {bytes : List ℕ} {s : Source} → within.IsSource bytes s → said.IsSource bytes s
+pub source : {bytes : List ℕ} {s : Source} → within.IsSource bytes s → said.IsSource bytes s
 source is = record { whole = is.reads.short; tokens = is.reads.tokens; cut = is.reads.cut; is = file is.reads.is.0 }
 
 pub grows : {shelf : Files} {top : List ℕ} {all whole : List NamedSource} → growing.GrowsTo shelf top all whole → said.GrowsTo shelf top all whole
