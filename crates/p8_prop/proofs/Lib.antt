@@ -8,6 +8,12 @@ mod Saving
 mod SaidRuns
 mod Lining
 mod Sourcing
+mod Barred
+mod Marks
+mod OneRow
+mod OneDeclaration
+mod OneStatement
+mod OneDatum
 mod Naming
 mod Imaging
 mod OneNames

@@ -1,6 +1,6 @@
 -- What the diagram reads as a line is a line of the sentence: its expressions are spelled as they stand, and it ends once.
 use Rattle.std.proofs.Common.{◌≡◌, ◌⊎◌, inl, inr, ◌∙◌, sym, ap, ap₂, subst, refl, ℕ, Bool, true, false, List, [], ◌∷◌, map, Option, Some, None, arith}
-use Rattle.std.specs.Prelude.{IsTrue, if◌then◌else◌, ◌&&◌, ◌||◌, not, ◌<◌, nat_lt}
+use Rattle.std.specs.Prelude.{IsTrue, if◌then◌else◌, ◌&&◌, ◌||◌, not, ◌<◌, nat_lt, unwrap_or}
 use Rattle.std.specs.List.{list_any, list_all}
 use Rattle.std.proofs.lemmas.Bool.Decides.{nat_tests}
 use Rattle.p8_tree.specs.declared.places.Place.{Place}
@@ -9,7 +9,7 @@ use Rattle.p8_lexer.specs.declared.word.Word.{Word}
 use Rattle.p8_lexer.specs.declared.word.Word.TheVariants as word
 use Rattle.p8_lexer.specs.Pieces as pieces
 use Rattle.p8_lexer.specs.Pieces.{Piece}
-use Rattle.p8_grammar.specs.Lexemes.{Setting, in_method, in_declaration, in_dat, in_data_item}
+use Rattle.p8_grammar.specs.Lexemes.{Setting, in_method, in_declaration, in_dat, in_data_item, name_in}
 use Rattle.p8_grammar.specs.Grammar.{IsExpression}
 use Rattle.p8_lines.specs.declared.sign.Sign.{Sign}
 use Rattle.p8_lines.specs.declared.sign.Sign.TheVariants as sign
@@ -19,11 +19,11 @@ use Rattle.p8_lines.specs.declared.state.State.TheVariants as state
 use Rattle.p8_lines.specs.Signs.{Matches, is_size, is_condition, takes_two, is_on_memory, takes_one, is_flag, is_write, is_label}
 use Rattle.p8_lines.specs.Diagram.{Phrase, choices}
 use Rattle.p8_lines.specs.Tokens as tokens
-use Rattle.p8_lines.specs.Tokens.{LineToken, string_length, terms, piece, label_piece}
+use Rattle.p8_lines.specs.Tokens.{LineToken, string_length, lexeme, terms, piece, label_piece}
 use Rattle.p8_lines.specs.Lines as lines
-use Rattle.p8_lines.specs.Lines.{Follows, behind, piece_in}
+use Rattle.p8_lines.specs.Lines.{Follows, here, further, behind, piece_in}
 use Rattle.p8_lines.proofs.Arrows.{Takes, all_good, all_good_behind, taken, taken_behind}
-use Rattle.p8_lines.proofs.Lexemes.{is_plain}
+use Rattle.p8_lines.proofs.Lexemes.{is_plain, named_label}
 use Rattle.p8_declarations.specs.DataParts.{part_of_word, part_of_piece}
 use Rattle.p8_blocks.proofs.Pieces.{word_piece, name_piece, text_piece, is_labelled, plain_piece}
 use Rattle.p8_blocks.proofs.Closed.{is_closed, own_next, own_behind}
@@ -129,6 +129,17 @@ labelled state.DatLabel = inr (refl, λ t. refl)
 labelled state.CallLocal = inr (refl, λ t. refl)
 labelled q = inl refl
 
+-- such a token is named
+named-there : (q : State) {t : LineToken} {r : State} → is_labelled q ≡ true → Follows (choices q).arrows t r → (n : List ℕ) × (name_in (lexeme t) ≡ Some n)
+named-there state.DatLabel {t = t} e (here m) = named_label t m
+named-there state.CallLocal {t = t} e (here m) = named_label t m
+named-there state.DatLabel e (further n f) = absurd (nothing-follows f)
+named-there state.CallLocal e (further n f) = absurd (nothing-follows f)
+named-there q e f = absurd cc
+
+label-is : (t : LineToken) (n : List ℕ) → name_in (lexeme t) ≡ Some n → label_piece t ≡ pieces.label n t.place
+label-is t n is = ap (λ (o : Option (List ℕ)). pieces.label (unwrap_or o []) t.place) is
+
 open-label : (q : State) {t : LineToken} {r : State} → is_labelled q ≡ true → Follows (choices q).arrows t r → is_end r ≡ false
 open-label state.DatLabel e f = let it = taken (λ (a : Arrow). not (is_end a.to)) f refl in not-so (is_end _) (subst (λ (r : State). IsTrue (not (is_end r))) it.goes it.good)
 open-label state.CallLocal e f = let it = taken (λ (a : Arrow). not (is_end a.to)) f refl in not-so (is_end _) (subst (λ (r : State). IsTrue (not (is_end r))) it.goes it.good)
@@ -148,12 +159,14 @@ module _ (spelled : Spelling) (Known : State → List Word → Type 0)
     (by-token : (q r : State) (before : List Word) (t : LineToken) → Known q before → Follows (choices q).arrows t r → Known r (word_at q t ∷ before))
     (by-value : (q r : State) (before : List Word) (h : Phrase) (us : List LineToken) (t : LineToken) → Known q before → (choices q).phrase ≡ Some h
     → Follows (behind h us) t r → (spelled before (tokens.word t) ≡ h.setting) × Known r (tokens.word t ∷ before)) where
-  token-step : {before : List Word} {row : List Piece} {ts : List LineToken} (q : State) (t : LineToken)
+  token-step : {before : List Word} {row : List Piece} {ts : List LineToken} (q : State) {r : State} (t : LineToken) → Follows (choices q).arrows t r
       → (is_labelled q ≡ false → Row spelled before (piece t ∷ row) (t ∷ ts)) → (is_labelled q ≡ true → Row spelled (word.Name ∷ before) row ts)
       → Row spelled before (piece_in q t ∷ row) (t ∷ ts)
-  token-step {before = before} {row = row} {ts = ts} q t plain label = elim (labelled q) [
+  token-step {before = before} {row = row} {ts = ts} q t f plain label = elim (labelled q) [
     | inl e ↦ subst (λ (x : Piece). Row spelled before (x ∷ row) (t ∷ ts)) (sym (plain_piece q t e)) (plain e)
-    | inr it ↦ subst (λ (x : Piece). Row spelled before (x ∷ row) (t ∷ ts)) (sym (it.1 t)) (a_label t (label it.0))
+    | inr it ↦
+        let n = named-there q it.0 f in
+        subst (λ (x : Piece). Row spelled before (x ∷ row) (t ∷ ts)) (sym (it.1 t ∙ label-is t n.0 n.1)) (a_label t n.1 (label it.0))
   ]
 
   known-plain : (q r : State) (before : List Word) (t : LineToken) → Known q before → Follows (choices q).arrows t r → is_labelled q ≡ false
@@ -170,7 +183,7 @@ module _ (spelled : Spelling) (Known : State → List Word → Type 0)
         → Row spelled before row ts
     goes-on lines.over known ahead = absurd cc
     goes-on {before = before} (lines.token {q = q} {r = r} {t = t} f rest) known ahead =
-        token-step q t (λ e. after t (by-arrow q f) rest (known-plain q r before t known f e))
+        token-step q t f (λ e. after t (by-arrow q f) rest (known-plain q r before t known f e))
         (λ e. goes-on rest (known-label q r before t known f e) (open-label q e f))
     goes-on {before = before} (lines.phrase {q = q} {r = r} {h = h} {e = e} {first = first} {t = t} others some is f rest) known ahead =
         let it = by-value q r before h (first ∷ others) t known some f in
@@ -183,7 +196,7 @@ module _ (spelled : Spelling) (Known : State → List Word → Type 0)
     after t takes lines.over known = last t (at-end takes refl)
     after {before = before} t takes (lines.token {q = q} {r = r} {t = u} f rest) known =
         a_token t (inside takes (open-arrows q f))
-        (token-step q u (λ e. after u (by-arrow q f) rest (known-plain q r (tokens.word t ∷ before) u known f e))
+        (token-step q u f (λ e. after u (by-arrow q f) rest (known-plain q r (tokens.word t ∷ before) u known f e))
         (λ e. goes-on rest (known-label q r (tokens.word t ∷ before) u known f e) (open-label q e f)))
     after {before = before} t takes (lines.phrase {q = q} {r = r} {h = h} {e = e} {first = first} {t = u} others some is f rest) known =
         let it = by-value q r (tokens.word t ∷ before) h (first ∷ others) u known some f in

@@ -17,14 +17,14 @@ use Rattle.p8_lexer.specs.declared.word.Word.{Word}
 use Rattle.p8_lexer.specs.declared.word.Word.TheVariants as words
 use Rattle.p8_lexer.specs.Words.{spelling}
 use Rattle.p8_lexer.specs.Lexing.{longest_file, AreTokens}
-use Rattle.p8_lexer.specs.Pieces.{Piece, tree}
-use Rattle.p8_grammar.specs.Lexemes.{Setting, in_method, in_declaration, in_dat, in_data_item, in_action}
+use Rattle.p8_lexer.specs.Pieces.{Piece, label, tree}
+use Rattle.p8_grammar.specs.Lexemes.{Setting, in_method, in_declaration, in_dat, in_data_item, in_action, name_in}
 use Rattle.p8_grammar.specs.Grammar.{IsExpression}
 use Rattle.p8_columns.specs.Lines as lines
 use Rattle.p8_columns.specs.Lines.{Kind}
 use Rattle.p8_columns.specs.Blocks.{AreStatements}
 use Rattle.p8_lines.specs.Signs.{is_size}
-use Rattle.p8_lines.specs.Tokens.{LineToken, all_tokens, word, piece, label_piece, terms}
+use Rattle.p8_lines.specs.Tokens.{LineToken, all_tokens, word, lexeme, piece, terms}
 use Rattle.p8_declarations.specs.Constants.{constants_of_row}
 use Rattle.p8_declarations.specs.Variables.{variables_of_row}
 use Rattle.p8_declarations.specs.Objects.{objects_of_row}
@@ -44,13 +44,13 @@ abbrev pub Spelling : Type 0
 Spelling = List Word → Word → Setting
 
 -- These tokens are a line with these pieces, behind those with these words: words, names and whole expressions, up to the end of the line or to a colon.
--- A label is told by its characters, whatever word it is.
+-- A label is a name or a reserved word, told by its characters.
 pub data Row (spelled : Spelling) : (before : List Word) → List Piece → List LineToken → Type 0 where
   last : {before : List Word} (t : LineToken) → (word t ≡ words.LineEnd) ⊎ (word t ≡ words.Colon) → Row spelled before (piece t ∷ []) (t ∷ [])
   a_token : {before : List Word} {row : List Piece} {ts : List LineToken} (t : LineToken) → (word t ≡ words.LineEnd → ⊥)
       → Row spelled (word t ∷ before) row ts → Row spelled before (piece t ∷ row) (t ∷ ts)
-  a_label : {before : List Word} {row : List Piece} {ts : List LineToken} (t : LineToken) → Row spelled (words.Name ∷ before) row ts
-      → Row spelled before (label_piece t ∷ row) (t ∷ ts)
+  a_label : {before : List Word} {row : List Piece} {ts : List LineToken} {n : List ℕ} (t : LineToken) → name_in (lexeme t) ≡ Some n
+      → Row spelled (words.Name ∷ before) row ts → Row spelled before (label n t.place ∷ row) (t ∷ ts)
   an_expression : {before : List Word} {row : List Piece} {ts : List LineToken} {e : Tree} (first : LineToken) (others : List LineToken) (t : LineToken)
       → IsExpression (spelled before (word t)) e (terms (first ∷ others)) → Row spelled before row (t ∷ ts)
       → Row spelled before (tree e first.place ∷ row) ((first ∷ others) ++ t ∷ ts)
