@@ -19,6 +19,7 @@ mod Imaging
 mod OneNames
 mod OneView
 mod OneFile
+mod OneSource
 mod OneProject
 mod OneImage
 mod OneTrace

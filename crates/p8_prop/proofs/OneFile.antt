@@ -19,6 +19,8 @@ use Rattle.p8_declarations.specs.Objects.{objects_of_row}
 use Rattle.p8_declarations.specs.Methods.{method_of_row}
 use Rattle.p8_statements.specs.Statements.{kind_of_row}
 use Rattle.p8_blocks.specs.Files.{method_word, first_block}
+use Rattle.p8_prop.proofs.Marks.{is_block}
+use Rattle.p8_prop.proofs.OneDeclaration.{IsReadOnce, BeginsNoBlock}
 use Rattle.p8_prop.specs.Sources as said
 use Rattle.p8_prop.specs.Sources.{Spelling, Row, IsLine, declared, headed, in_text, in_data, data_of_row, Declare, AreLines, IsBlock, IsFile, IsSource, with_body}
 
@@ -35,16 +37,6 @@ same-rest [] xs ys e = e
 same-rest (u ∷ us) xs ys e = same-rest us xs ys (same-tail e)
 
 -- ---- segments, which are read once and begin with no block's word
-
--- the word of a block
-abbrev pub is_block : Word → Bool
-is_block words.Con = true
-is_block words.Var = true
-is_block words.Obj = true
-is_block words.Dat = true
-is_block words.Pub = true
-is_block words.Pri = true
-is_block w = false
 
 -- nothing is left, or a block begins
 abbrev Ends : List LineToken → Type 0
@@ -83,15 +75,6 @@ module _ {Y : Type 0} (Seg : List Y → List LineToken → Type 0) (read : AreRe
 
 -- ---- the lines of a block that isn't a method
 
--- tokens begin with one line of these, with one value
-abbrev pub IsReadOnce : {X : Type 0} → Spelling → (List Piece → Option X) → Type 0
-IsReadOnce {X} spelled value = (x x' : X) (ts ts' rest rest' : List LineToken) → IsLine spelled value x ts → IsLine spelled value x' ts'
-    → ts ++ rest ≡ ts' ++ rest' → (x ≡ x') × (ts ≡ ts')
-
--- no line of these begins with the word of a block
-abbrev pub BeginsNoBlock : {X : Type 0} → Spelling → (List Piece → Option X) → Type 0
-BeginsNoBlock {X} spelled value = (x : X) (t : LineToken) (ts us : List LineToken) → IsLine spelled value x us → us ≡ t ∷ ts → IsTrue (is_block (word t)) → ⊥
-
 pub record AreLinesRead {X : Type 0} (spelled : Spelling) (value : List Piece → Option (List X)) : Type 0 where
   pub once : IsReadOnce spelled value
   pub apart : BeginsNoBlock spelled value
@@ -103,7 +86,7 @@ row-begins : {spelled : Spelling} {before : List Word} {row : List Piece} {ts : 
     → (t : LineToken) × (us : List LineToken) × (ts ≡ t ∷ us)
 row-begins (said.last t ends) = (t, [], refl)
 row-begins (said.a_token {ts = ts} t goes row) = (t, ts, refl)
-row-begins (said.a_label {ts = ts} t row) = (t, ts, refl)
+row-begins (said.a_label {ts = ts} t is row) = (t, ts, refl)
 row-begins (said.an_expression {ts = ts} first others t is row) = (first, others ++ t ∷ ts, refl)
 
 no-end : (t : LineToken) (us rest : List LineToken) → Ends ((t ∷ us) ++ rest) → IsTrue (is_block (word t))

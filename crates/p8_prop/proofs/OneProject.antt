@@ -11,8 +11,8 @@ use Rattle.p8_objects.specs.Sources.{mentions}
 use Rattle.p8_objects.proofs.Elements.{one_first, one_last, last_is_one}
 use Rattle.p8_objects.proofs.Wholes.{next_not_empty}
 use Rattle.p8_prop.specs.Sources as said
-use Rattle.p8_prop.specs.RunLaws.{HaveOneReading}
 use Rattle.p8_prop.proofs.Sourcing.{source}
+use Rattle.p8_prop.proofs.OneSource.{one-reading}
 
 -- a file is read with one text
 pub one-start : (file : Option (List ℕ)) (bytes other : List ℕ) → AreStartOf file bytes → AreStartOf file other → other ≡ bytes
@@ -28,11 +28,11 @@ same-next files f g x y a b =
 has-open : (files : List NamedSource) (f : NamedSource) (x : Child) → IsNext files f x → HasOne (HasOpen files) files
 has-open files f x next = let it = last_is_one next.file in record { number = it.0; element = f; stands = it.1; holds = it.2 }
 
-module _ (files : List ℕ → Option (List ℕ)) (top : List ℕ) (one : HaveOneReading) where
+module _ (files : List ℕ → Option (List ℕ)) (top : List ℕ) where
   grows-one : {sources all other : List NamedSource} → growing.GrowsTo (Some files) top sources all → said.GrowsTo (Some files) top sources other → other ≡ all
   grows-one {other = other} (growing.first_file bytes s has is rest) (said.first_file bytes' s' has' is' rest') =
       let bytes-same : bytes' ≡ bytes = one-start (files top) bytes bytes' has.1 has'.1 in
-      let same : s' ≡ s = sym (one bytes s s' (source is) (subst (λ (b : List ℕ). said.IsSource b s') bytes-same is')) in
+      let same : s' ≡ s = sym (one-reading bytes s s' (source is) (subst (λ (b : List ℕ). said.IsSource b s') bytes-same is')) in
       grows-one rest (subst (λ (s : Source). said.GrowsTo (Some files) top (named top s ∷ []) other) same rest')
   grows-one (growing.first_file bytes s has is rest) (said.new_file g y bytes' s' next' new' has' is' rest') = absurd (next_not_empty next' refl)
   grows-one (growing.first_file bytes s has is rest) (said.whole some none) = absurd (omega (arith, some))
@@ -42,7 +42,7 @@ module _ (files : List ℕ → Option (List ℕ)) (top : List ℕ) (one : HaveOn
       let name-same : y.file ≡ x.file = ap (λ (z : Child). z.file) (sym (same-next sources f g x y next next')) in
       let bytes-same : bytes' ≡ bytes =
       one-start (files x.file) bytes bytes' has.1 (subst (λ (name : List ℕ). IsRead (Some files) name bytes') name-same has'.1) in
-      let same : s' ≡ s = sym (one bytes s s' (source is) (subst (λ (b : List ℕ). said.IsSource b s') bytes-same is')) in
+      let same : s' ≡ s = sym (one-reading bytes s s' (source is) (subst (λ (b : List ℕ). said.IsSource b s') bytes-same is')) in
       let file-same : named y.file s' ≡ named x.file s = λ i. named (name-same i) (same i) in
       grows-one rest (subst (λ (file : NamedSource). said.GrowsTo (Some files) top (sources ++ file ∷ []) other) file-same rest')
   grows-one {sources = sources} (growing.new_file f x bytes s next new room has is rest) (said.whole some none) = absurd (none (has-open sources f x next))

@@ -22,7 +22,6 @@ use Rattle.p8_commands.specs.Commands.{Running, traced_of}
 use Rattle.p8_prop.specs.Headline as whole
 use Rattle.p8_prop.specs.Headline.{IsRun}
 use Rattle.p8_prop.specs.Images.{IsImageOf}
-use Rattle.p8_prop.specs.RunLaws.{HaveOneReading}
 use Rattle.p8_prop.specs.Runs.{IsCompiledFrom, IsRunOf, IsTraceOf}
 use Rattle.p8_prop.proofs.Imaging.{plain-image, short-image}
 use Rattle.p8_prop.proofs.OneProject.{one-start, one-project}
@@ -32,7 +31,7 @@ use Rattle.p8_prop.proofs.OneImage.{one-image, settings-of}
 pub one-run : (value : Text → Option Text) (run other : Running) → traced_of value ≡ Some run → traced_of value ≡ Some other → other ≡ run
 one-run value run other is also = same_Some _ _ (sym also ∙ is)
 
-module _ (files : List ℕ → Option (List ℕ)) (one : HaveOneReading) where
+module _ (files : List ℕ → Option (List ℕ)) where
   one-script : (file : Option (List ℕ)) (script other : List Line) → IsScriptFor (Some files) file script → IsScriptFor (Some files) file other
       → other ≡ script
   one-script None script other is also = also ∙ sym is
@@ -46,7 +45,7 @@ module _ (files : List ℕ → Option (List ℕ)) (one : HaveOneReading) where
   from-source false top bytes other w v past late (sources, clock, objects, from, is, lives) also =
       let built = from.built in
       let all = whole_project (gathers from.gathered 0 0) in
-      let same : also.sources ≡ sources = one-project files top one sources also.sources from.gathered also.gathered in
+      let same : also.sources ≡ sources = one-project files top sources also.sources from.gathered also.gathered in
       let image : IsImageOf false sources also.children also.compiled also.objects other =
       subst (λ (files : List NamedSource). IsImageOf false files also.children also.compiled also.objects other) same also.image in
       sym (one-image false sources (distinct sources all.distinct) (no_ring sources all.no_ring) built.children also.children
@@ -55,7 +54,7 @@ module _ (files : List ℕ → Option (List ℕ)) (one : HaveOneReading) where
   from-source true top bytes other w v past late (sources, clock, objects, from, is, lives) also =
       let built = from.built in
       let all = whole_project (gathers from.gathered 0 0) in
-      let same : also.sources ≡ sources = one-project files top one sources also.sources from.gathered also.gathered in
+      let same : also.sources ≡ sources = one-project files top sources also.sources from.gathered also.gathered in
       let image : IsImageOf true sources also.children also.compiled also.objects other =
       subst (λ (files : List NamedSource). IsImageOf true files also.children also.compiled also.objects other) same also.image in
       sym (one-image true sources (distinct sources all.distinct) (no_ring sources all.no_ring) built.children also.children

@@ -23,7 +23,7 @@ use Rattle.p8_prop.specs.Headline.{IsRun, IsHeadline}
 use Rattle.p8_prop.specs.Verdicts.{Outside, Verdict, unsaid, stopped, unexplained, bad, written, unwritten, stop_status, status_of, IsVerdict, IsOut}
 use Rattle.p8_prop.specs.Promises.{HasHeadline, Keeps}
 use Rattle.p8_prop.specs.Runs.{raw_app, run_app, value_in, format_said, IsRunOf, IsTraceOf, PrintsRaw, PrintsRun, PrintsHistory}
-use Rattle.p8_prop.specs.RunLaws.{AreOfRun, IsCommandOf, HaveOneReading, RunsPrintTheirHistory}
+use Rattle.p8_prop.specs.RunLaws.{AreOfRun, IsCommandOf, RunsPrintTheirHistory}
 use Rattle.p8_prop.proofs.Imaging.{told-by}
 use Rattle.p8_prop.proofs.OneTrace.{one-run, one-trace}
 use Rattle.p8_prop.proofs.SaidRuns.{said-raw, said-run, command-raw, command-run}
@@ -156,7 +156,7 @@ prints files (word ∷ words) is text (inr run) said headline =
 apart : codes "raw" ≡ codes "run" → ⊥
 apart e = true-not_false (ap (λ (w : Text). bytes_eq w (codes "raw")) e)
 
-module _ (files : List ℕ → Option (List ℕ)) (one : HaveOneReading) where
+module _ (files : List ℕ → Option (List ℕ)) where
   only-raw : (words : List Text) (is : Command) (text other : List ℕ) → said_to named.Raw words ≡ Some is → IsHeadline (Some files) is text
       → PrintsRaw (Some files) words other → other ≡ text
   only-raw words is text other said headline (run, says, traced) =
@@ -164,7 +164,7 @@ module _ (files : List ℕ → Option (List ℕ)) (one : HaveOneReading) where
       let printed : IsHeadline (Some files) (RunMemory it.0) text =
       subst (λ (c : Command). IsHeadline (Some files) c text) (sym (same_Some _ _ it.2)) headline in
       let same : run ≡ it.0 = one-run (value_in raw_app words) it.0 run it.1.1 says.1 in
-      one-trace files one Memory it.0 text other printed (subst (λ (run : Running). IsTraceOf (Some files) Memory run other) same traced)
+      one-trace files Memory it.0 text other printed (subst (λ (run : Running). IsTraceOf (Some files) Memory run other) same traced)
 
   only-run : (words : List Text) (is : Command) (text other : List ℕ) → said_to named.Run words ≡ Some is → IsHeadline (Some files) is text
       → PrintsRun (Some files) words other → other ≡ text
@@ -175,7 +175,7 @@ module _ (files : List ℕ → Option (List ℕ)) (one : HaveOneReading) where
       let printed : IsHeadline (Some files) (RunProgram alone short it.0) text =
       subst (λ (c : Command). IsHeadline (Some files) c text) (sym (same_Some _ _ it.2)) headline in
       let same : run ≡ it.0 = one-run (value_in run_app words) it.0 run it.1.1 says.1 in
-      one-trace files one (format_said words it.0) it.0 text other printed
+      one-trace files (format_said words it.0) it.0 text other printed
       (subst (λ (run : Running). IsTraceOf (Some files) (format_said words run) run other) same traced)
 
   only : (words : List Text) (is : Command) (text other : List ℕ) → AreOfRun words → command_of words ≡ Some is → IsHeadline (Some files) is text
@@ -199,6 +199,6 @@ runs-print o words command run said keeps =
       it.1,
       it.3,
       prints o.shelf.files words it.0 it.1 run is it.4,
-      λ one files other tells printed. only files one words it.0 it.1 other run is (subst (λ (shelf : Files). IsHeadline shelf it.0 it.1) tells it.4)
+      λ files other tells printed. only files words it.0 it.1 other run is (subst (λ (shelf : Files). IsHeadline shelf it.0 it.1) tells it.4)
           (subst (λ (shelf : Files). PrintsHistory shelf words other) tells printed),
     )
