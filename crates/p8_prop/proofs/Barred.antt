@@ -1,11 +1,21 @@
 -- In an expression brackets pair, and outside them stands neither a mark that parts expressions nor a word that belongs to none. So such a mark, or word,
 -- behind a whole expression is no part of a longer one.
-use Rattle.std.proofs.Common.{◌≡◌, ◌⊎◌, inl, inr, ◌∙◌, sym, ap, subst, refl, ℕ, zero, suc, Bool, true, false, List, [], ◌∷◌, ◌++◌, map, Option, Some, None}
-use Rattle.std.specs.Prelude.{IsTrue, if◌then◌else◌, not, option_and_then}
+use Rattle.std.proofs.Common.{◌≡◌, ◌⊎◌, inl, inr, ◌∙◌, sym, ap, subst, refl, ℕ, zero, suc, Bool, true, false, List, [], ◌∷◌, ◌++◌, Option, Some, None}
+use Rattle.std.specs.Prelude.{IsTrue, if◌then◌else◌, option_and_then}
 use Rattle.p8_tree.specs.declared.places.Place.{Place}
 use Rattle.p8_tree.specs.Expressions.{Tree, Variable, Trees, Items}
-use Rattle.p8_grammar.specs.Lexemes.{Setting, in_method, in_declaration, in_dat, in_data_item, in_action, allows_index, is_dat, inside, behind, Access, Mark, left_parenthesis, right_parenthesis, left_bracket, right_bracket, comma, colon, dot_dot, equal, Lexeme, name, string, mark, prefix_word, infix_word, sign, assigns, object_address, look, other, Token, token, reserved, plain, name_in, is_free}
-use Rattle.p8_grammar.specs.Grammar.{Piece, Row, begin, ◌▹◌, word, upto, unquoted, Names, plain_name, result_word, local_label, Variables, named, indexed, part, part_indexed, memory_at, memory_indexed, register_whole, register_bit, register_bits, Head, opening, Heads, trapped, of_object, of_element, of_built_in, of_command, Arguments, no_arguments, argument, Choices, no_choices, value_choice, range_choice, text_choice, Texts, first_text, first_value, next_text, next_value, Prefix, prefix_of, infix_of, Forms, a_number, a_character, the_place, parentheses, variable, name_alone, changed_by, changed_before, changed_after, address_of, plain_call, bare_call, full_call, object_constant, a_value, a_string, one_item, items_text, items_value, a_constant, look_value, look_range, look_text, Reads, operand, before, between, assigned, assigned_by_word, Spells, nothing, a_word, a_reserved_word, an_expression, an_unquoted, IsExpression}
+use Rattle.p8_grammar.specs.Lexemes.{Setting, in_method, allows_index, is_dat, inside, behind, Access, Mark, left_parenthesis, right_parenthesis}
+use Rattle.p8_grammar.specs.Lexemes.{left_bracket, right_bracket, comma, colon, dot_dot, equal, Lexeme, name, string, mark, prefix_word, infix_word}
+use Rattle.p8_grammar.specs.Lexemes.{sign, assigns, object_address, look, other, Token, token, reserved, plain, name_in, is_free}
+use Rattle.p8_grammar.specs.Grammar.{Piece, Row, begin, ◌▹◌, word, upto, unquoted, Names, plain_name, result_word, local_label, Variables, named}
+use Rattle.p8_grammar.specs.Grammar.{indexed, part, part_indexed, memory_at, memory_indexed, register_whole, register_bit, register_bits, Head}
+use Rattle.p8_grammar.specs.Grammar.{opening, Heads, trapped, of_object, of_element, of_built_in, of_command, Arguments, no_arguments, argument}
+use Rattle.p8_grammar.specs.Grammar.{Choices, no_choices, value_choice, range_choice, text_choice, Texts, first_text, first_value, next_text}
+use Rattle.p8_grammar.specs.Grammar.{next_value, Prefix, prefix_of, infix_of, Forms, a_number, a_character, the_place, parentheses, variable}
+use Rattle.p8_grammar.specs.Grammar.{name_alone, changed_by, changed_before, changed_after, address_of, plain_call, bare_call, full_call}
+use Rattle.p8_grammar.specs.Grammar.{object_constant, a_value, a_string, one_item, items_text, items_value, a_constant, look_value, look_range}
+use Rattle.p8_grammar.specs.Grammar.{look_text, Reads, operand, before, between, assigned, assigned_by_word, Spells, nothing, a_word, a_reserved_word}
+use Rattle.p8_grammar.specs.Grammar.{an_expression, an_unquoted, IsExpression}
 
 -- ---- how deep in brackets
 
@@ -124,7 +134,8 @@ step-up dat j i (label n) x = word-up dat j i n x
 
 scan-up : (dat j i : Bool) (o o' : Option Depth) (ts : List Token) → Follows o' (up_all o) → Follows (scan dat i o' ts) (up_all (scan dat j o ts))
 scan-up dat j i o o' [] h = h
-scan-up dat j i None o' (token p x ∷ ts) h = subst (λ (r : Option Depth). Follows (scan dat i (option_and_then (λ q. step dat i q x) o') ts) (up_all r)) (sym (scan-none dat j ts)) tt
+scan-up dat j i None o' (token p x ∷ ts) h =
+    subst (λ (r : Option Depth). Follows (scan dat i (option_and_then (λ q. step dat i q x) o') ts) (up_all r)) (sym (scan-none dat j ts)) tt
 scan-up dat j i (Some q) o' (token p x ∷ ts) h =
     scan-up dat j i (step dat j q x) (option_and_then (λ q. step dat i q x) o') ts
     (subst (λ (r : Option Depth). Follows (option_and_then (λ q. step dat i q x) r) (up_all (step dat j q x))) (sym h) (step-up dat j i q x))
@@ -143,7 +154,8 @@ label-step dat index n x = refl
 
 scan-same : (dat index : Bool) (o o' : Option Depth) (ts : List Token) → Follows o' o → Follows (scan dat index o' ts) (scan dat index o ts)
 scan-same dat index None o' ts h = subst (λ (r : Option Depth). Follows (scan dat index o' ts) r) (sym (scan-none dat index ts)) tt
-scan-same dat index (Some q) o' ts h = subst (λ (r : Option Depth). Follows (scan dat index r ts) (scan dat index (Some q) ts)) (sym h) (same (scan dat index (Some q) ts))
+scan-same dat index (Some q) o' ts h =
+    subst (λ (r : Option Depth). Follows (scan dat index r ts) (scan dat index (Some q) ts)) (sym h) (same (scan dat index (Some q) ts))
   where
     same : (o : Option Depth) → Follows o o
     same None = tt
@@ -189,7 +201,8 @@ module _ (s : Setting) where
   bracket : (n : ℕ) → IsTrue (allows_index s) → step (is_dat s) (allows_index s) (at n) (mark left_bracket) ≡ Some (at (suc n))
   bracket n h = ap (λ (b : Bool). if b then Some (at (suc n)) else deeper n) h
 
-  in-brackets : {row : Row} (q : Place) (e : Tree) → IsTrue (allows_index s) → IsAt s row (at 0) → IsAt s (row ▹ word q (mark left_bracket) ▹ upto e right_bracket) (at 0)
+  in-brackets : {row : Row} (q : Place) (e : Tree) → IsTrue (allows_index s) → IsAt s row (at 0)
+      → IsAt s (row ▹ word q (mark left_bracket) ▹ upto e right_bracket) (at 0)
   in-brackets q e i h = one-more (upto e right_bracket) (one-more (word q (mark left_bracket)) h (bracket 0 i)) refl
 
   name-depth : {before row : Row} {n : List ℕ} {p : Place} → Names s before n p row → IsAt s before (at 0) → IsAt s row (at 0)
@@ -213,7 +226,8 @@ module _ (s : Setting) where
   variable-depth (register_whole {p = p} i) h = one-more (word p _) h refl
   variable-depth (register_bit {p = p} {q = q} {e = e} i j k) h = in-brackets q e i (one-more (word p _) h refl)
   variable-depth (register_bits {p = p} {q = q} {low = low} {high = high} i j k) h =
-      one-more (upto high right_bracket) (one-more (upto low dot_dot) (one-more (word q (mark left_bracket)) (one-more (word p _) h refl) (bracket 0 i)) refl) refl
+      one-more (upto high right_bracket)
+      (one-more (upto low dot_dot) (one-more (word q (mark left_bracket)) (one-more (word p _) h refl) (bracket 0 i)) refl) refl
 
   opening-depth : (t : Bool) (o : Place) → IsAt s (opening t o) (at 0)
   opening-depth true o = record { is = refl }
@@ -221,7 +235,8 @@ module _ (s : Setting) where
 
   head-depth : {x : Head} {row : Row} → Heads s x row → IsAt s row (at 0)
   head-depth (trapped o) = record { is = refl }
-  head-depth (of_object {trap = trap} {p = p} {q = q} {r = r} o) = one-more (word q _) (one-more (word r _) (one-more (word p _) (opening-depth trap o) refl) refl) refl
+  head-depth (of_object {trap = trap} {p = p} {q = q} {r = r} o) =
+      one-more (word q _) (one-more (word r _) (one-more (word p _) (opening-depth trap o) refl) refl) refl
   head-depth (of_element {trap = trap} {p = p} {q = q} {r = r} {u = u} {e = e} o i) =
       one-more (word q _) (one-more (word r _) (in-brackets u e i (one-more (word p _) (opening-depth trap o) refl)) refl) refl
   head-depth of_built_in = record { is = refl }
@@ -282,7 +297,8 @@ module _ (s : Setting) where
   form-depth (address_of {p = p} d v) = variable-depth v (record { is = refl })
   form-depth (plain_call {e = e} a) = one-more (upto e right_parenthesis) (arguments-depth a (record { is = refl })) refl
   form-depth (bare_call h) = head-depth h
-  form-depth (full_call {q = q} {e = e} h a) = one-more (upto e right_parenthesis) (arguments-depth a (one-more (word q (mark left_parenthesis)) (head-depth h) refl)) refl
+  form-depth (full_call {q = q} {e = e} h a) =
+      one-more (upto e right_parenthesis) (arguments-depth a (one-more (word q (mark left_parenthesis)) (head-depth h) refl)) refl
   form-depth (object_constant d) = record { is = refl }
   form-depth a_value = record { is = refl }
   form-depth (a_string d) = record { is = refl }
@@ -345,7 +361,8 @@ one-token : (dat index : Bool) (o : Option Depth) (ts : List Token) (p : Place) 
 one-token dat index o ts p x h g = scan-on dat index o ts (token p x ∷ []) h ∙ g
 
 -- an expression at any depth
-higher : (s : Setting) (n : ℕ) (us : List Token) → depth-of (inside s) us ≡ Some (at 0) → scan (is_dat s) (allows_index s) (Some (at (suc n))) us ≡ Some (at (suc n))
+higher : (s : Setting) (n : ℕ) (us : List Token) → depth-of (inside s) us ≡ Some (at 0)
+    → scan (is_dat s) (allows_index s) (Some (at (suc n))) us ≡ Some (at (suc n))
 higher s zero us d =
     subst (λ (o : Option Depth). Follows (scan (is_dat s) (allows_index s) (Some (at 1)) us) (up_all o))
     (subst (λ (b : Bool). scan b (allows_index (inside s)) (Some (at 0)) us ≡ Some (at 0)) (dat-inside s) d)
@@ -376,7 +393,8 @@ mutual
       scan-on (is_dat s) (allows_index s) (Some (at 0)) ts (token p x ∷ us) (reads-depth s a)
       ∙ (ap (λ (q : Option Depth). scan (is_dat s) (allows_index s) q us) (infix-step (is_dat s) (allows_index s) x _ is) ∙ reads-depth s b)
   reads-depth s (assigned {o = o} {p = p} {ts = ts} {us = us} x le written v spells r) =
-      scan-on (is_dat s) (allows_index s) (Some (at 0)) ts (token p (assigns o) ∷ us) (spells-depth s spells (variable-depth s v (start s)).is) ∙ (sym (behind-same s us) ∙ reads-depth (behind s) r)
+      scan-on (is_dat s) (allows_index s) (Some (at 0)) ts (token p (assigns o) ∷ us) (spells-depth s spells (variable-depth s v (start s)).is)
+      ∙ (sym (behind-same s us) ∙ reads-depth (behind s) r)
   reads-depth s (assigned_by_word {p = p} {ts = ts} {us = us} x w k q le written is b v spells r) =
       scan-on (is_dat s) (allows_index s) (Some (at 0)) ts (token p w ∷ token q (mark equal) ∷ us) (spells-depth s spells (variable-depth s v (start s)).is)
       ∙ (ap (λ (o : Option Depth). scan (is_dat s) (allows_index s) o (token q (mark equal) ∷ us)) (infix-step (is_dat s) (allows_index s) w _ is)
@@ -386,16 +404,20 @@ mutual
       → depth-of s ts ≡ Some q
   spells-depth s nothing h = h
   spells-depth s (a_word {row = row} {p = p} {x = x} {ts = ts} spells) h =
-      let it = there (row_depth (is_dat s) (allows_index s) row) _ h in one-token (is_dat s) (allows_index s) (Some (at 0)) ts p x (spells-depth s spells it.1) it.2
+      let it = there (row_depth (is_dat s) (allows_index s) row) _ h in
+      one-token (is_dat s) (allows_index s) (Some (at 0)) ts p x (spells-depth s spells it.1) it.2
   spells-depth s (a_reserved_word {row = row} {p = p} {x = x} {ts = ts} n free spells) h =
       let it = there (row_depth (is_dat s) (allows_index s) row) _ h in
-      one-token (is_dat s) (allows_index s) (Some (at 0)) ts p (reserved n x) (spells-depth s spells it.1) (free-step (is_dat s) (allows_index s) it.0 n x free it.2)
+      one-token (is_dat s) (allows_index s) (Some (at 0)) ts p (reserved n x) (spells-depth s spells it.1)
+      (free-step (is_dat s) (allows_index s) it.0 n x free it.2)
   spells-depth s (an_expression {row = row} {m = m} {ts = ts} {us = us} p spells r) h =
       let it = there (row_depth (is_dat s) (allows_index s) row) _ h in
-      scan-on (is_dat s) (allows_index s) (Some (at 0)) ts (us ++ token p (mark m) ∷ []) (spells-depth s spells it.1) ∙ in-hole s it.0 us p m it.2 (reads-depth (inside s) r)
+      scan-on (is_dat s) (allows_index s) (Some (at 0)) ts (us ++ token p (mark m) ∷ []) (spells-depth s spells it.1)
+      ∙ in-hole s it.0 us p m it.2 (reads-depth (inside s) r)
   spells-depth s (an_unquoted {row = row} {m = m} {ts = ts} {us = us} p spells r apart) h =
       let it = there (row_depth (is_dat s) (allows_index s) row) _ h in
-      scan-on (is_dat s) (allows_index s) (Some (at 0)) ts (us ++ token p (mark m) ∷ []) (spells-depth s spells it.1) ∙ in-hole s it.0 us p m it.2 (reads-depth (inside s) r)
+      scan-on (is_dat s) (allows_index s) (Some (at 0)) ts (us ++ token p (mark m) ∷ []) (spells-depth s spells it.1)
+      ∙ in-hole s it.0 us p m it.2 (reads-depth (inside s) r)
 
 -- ---- what an expression neither begins nor goes on with
 
@@ -422,5 +444,6 @@ pub no-longer : (s s' : Setting) {e e' : Tree} (ts us : List Token) (p : Place) 
     → IsExpression s' e' (ts ++ token p x ∷ us) → ⊥
 no-longer s s' ts us p x alike b r r' =
     barred s' ts us p x
-    (ap (λ (index : Bool). scan (is_dat s') index (Some (at 0)) ts) (sym alike.1) ∙ ap (λ (dat : Bool). scan dat (allows_index s) (Some (at 0)) ts) (sym alike.0) ∙ reads-depth s r)
+    (ap (λ (index : Bool). scan (is_dat s') index (Some (at 0)) ts) (sym alike.1)
+    ∙ ap (λ (dat : Bool). scan dat (allows_index s) (Some (at 0)) ts) (sym alike.0) ∙ reads-depth s r)
     b r'

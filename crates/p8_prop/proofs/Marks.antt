@@ -1,13 +1,9 @@
 -- Which words stand outside brackets in no expression, and which piece a token is.
-use Rattle.std.proofs.Common.{◌≡◌, ◌∙◌, sym, ap, subst, refl, ℕ, Bool, true, false, List, []}
-use Rattle.std.specs.Prelude.{IsTrue, if◌then◌else◌}
-use Rattle.p8_tree.specs.declared.places.Place.{Place}
+use Rattle.std.proofs.Common.{◌≡◌, ◌∙◌, sym, ap, subst, refl, ℕ, Bool, true, false, List}
+use Rattle.std.specs.Prelude.{IsTrue}
 use Rattle.p8_lexer.specs.declared.word.Word.{Word}
 use Rattle.p8_lexer.specs.declared.word.Word.TheVariants as words
-use Rattle.p8_lexer.specs.declared.token.TokenKind.{TokenKind}
-use Rattle.p8_lexer.specs.declared.token.TokenKind.TheVariants as kind
 use Rattle.p8_lexer.specs.Pieces as pieces
-use Rattle.p8_lexer.specs.Pieces.{Piece}
 use Rattle.p8_grammar.specs.Lexemes.{Setting, in_method, in_declaration, in_action, is_dat, colon, Lexeme, name, string, mark}
 use Rattle.p8_expr.specs.Words.{lexeme_of_word}
 use Rattle.p8_lines.specs.Tokens.{LineToken, word, lexeme, piece_from, piece}

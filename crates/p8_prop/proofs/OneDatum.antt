@@ -6,23 +6,24 @@ use Rattle.p8_tree.specs.declared.places.Place.{Place}
 use Rattle.p8_tree.specs.Expressions.{Tree, node, Str}
 use Rattle.p8_tree.specs.Sources as sources
 use Rattle.p8_tree.specs.Sources.{Datum, Instruction}
-use Rattle.p8_instr.specs.Mnemonics.{entry_of, mnemonics}
+use Rattle.p8_instr.specs.Mnemonics.{mnemonics}
 use Rattle.p8_lexer.specs.declared.word.Word.{Word}
 use Rattle.p8_lexer.specs.declared.word.Word.TheVariants as words
-use Rattle.p8_lexer.specs.Words.{spelling}
-use Rattle.p8_lexer.specs.Pieces as pieces
 use Rattle.p8_lexer.specs.Pieces.{Piece}
-use Rattle.p8_grammar.specs.Lexemes.{Setting, in_dat, in_data_item, Lexeme, mark, left_bracket as open_bracket_mark, hash as hash_mark, colon as colon_mark, string as quoted, size as size_lexeme_of, token, name as name_lexeme, name_in}
-use Rattle.p8_grammar.specs.Grammar.{IsExpression, IsFront, operand, variable, named, plain_name, local_label, nothing, a_word}
+use Rattle.p8_grammar.specs.Lexemes.{Setting, in_dat, in_data_item, Lexeme, mark, left_bracket as open_bracket_mark, colon as colon_mark}
+use Rattle.p8_grammar.specs.Lexemes.{string as quoted, size as size_lexeme_of, token, name as name_lexeme, name_in}
+use Rattle.p8_grammar.specs.Grammar.{IsExpression, operand, variable, named, plain_name, local_label, nothing, a_word}
 use Rattle.p8_grammar.specs.Machine.{start, step as machine_step, walk}
 use Rattle.p8_grammar.proofs.Live.{dead}
 use Rattle.p8_lines.specs.Signs.{is_size}
 use Rattle.p8_lines.specs.Tokens.{LineToken, word, lexeme, term, terms, piece}
 use Rattle.p8_lines.proofs.Lexemes.{IsLike, the_word, the_reserved, left_bracket_lexeme, hash_lexeme, colon_lexeme, size_lexeme, other_word}
 use Rattle.p8_expr.specs.Words.{lexeme_of_word}
-use Rattle.p8_declarations.specs.DataParts.{Part, line_end, colon, comma, hash, left_bracket, right_bracket, size, org, res, fit, condition, effect, jump, other, name, behind_colon, text, tree, part_of_word, part_of_piece, place_of, before_end, parts}
+use Rattle.p8_declarations.specs.DataParts.{Part, line_end, colon, comma, hash, left_bracket, right_bracket, size, org, res, fit, condition, effect}
+use Rattle.p8_declarations.specs.DataParts.{jump, other, name, behind_colon, text, tree, part_of_word, part_of_piece, place_of, before_end}
 use Rattle.p8_declarations.specs.Lines as lines
-use Rattle.p8_declarations.specs.Lines.{local, value, before, behind, open_bracket, counted, over, datum, items, all_items, bare, effects, direct, immediate, label, behind_hash, source, behind_destination, operands, instruction, body, blank, line, maybe_line, line_of_row}
+use Rattle.p8_declarations.specs.Lines.{local, value, before, behind, open_bracket, counted, over, datum, items, all_items, bare, effects, label}
+use Rattle.p8_declarations.specs.Lines.{behind_hash, source, behind_destination, operands, instruction, body, blank, line, maybe_line}
 use Rattle.p8_blocks.specs.Files.{lines_in, lines_of_row}
 use Rattle.p8_blocks.proofs.Pieces.{word_piece}
 use Rattle.p8_prop.specs.Sources as said
@@ -224,7 +225,8 @@ name-size = refl
 abbrev of_token : LineToken → Part
 of_token t = part_of_piece (piece t)
 
-by-word : (P : Part → Bool) (t : LineToken) → ((n : List ℕ) (p : Place) → P (name n p) ≡ false) → ((x : List ℕ) (p : Place) → P (text x p) ≡ false) → IsTrue (P (of_token t))
+by-word : (P : Part → Bool) (t : LineToken) → ((n : List ℕ) (p : Place) → P (name n p) ≡ false) → ((x : List ℕ) (p : Place) → P (text x p) ≡ false)
+    → IsTrue (P (of_token t))
     → IsTrue (P (part_of_word (word t) t.place))
 by-word P t names texts h = of (sort t)
   where
@@ -424,7 +426,8 @@ data Clash (q : Stage) (x : Part) : Type 0 where
   a_hash : q ≡ operand_next → IsTrue (is_hash x) → Clash q x
   a_bar : IsTrue (is_bar x) → Clash q x
 
-tree-there : (q : Stage) (x : Part) {r : Stage} → step q x ≡ Some r → (e : Tree) (p : Place) {r' : Stage} → step q (tree e p) ≡ Some r' → is_tree x ≡ false → Clash q x
+tree-there : (q : Stage) (x : Part) {r : Stage} → step q x ≡ Some r → (e : Tree) (p : Place) {r' : Stage} → step q (tree e p) ≡ Some r' → is_tree x ≡ false
+    → Clash q x
 tree-there maybe line_end g e p g' n = a_bar refl
 tree-there maybe x g e p g' n = absurd cc
 tree-there operand_next hash g e p g' n = a_hash refl refl
@@ -516,7 +519,8 @@ label-tree q r r' n p e p' g g' =
     let h : None ≡ Some r' = ap (λ (q : Stage). step q (tree e p')) (sym l) ∙ (known-step q (tree e p') g').0 in cc
 
 -- what stands behind a tree: a bar, or the bracket of a count
-behind-so : (q r r' : Stage) (e : Tree) (p : Place) (x : Part) → step q (tree e p) ≡ Some r → step r x ≡ Some r' → IsTrue (is_bar x) ⊎ (IsTrue (is_bracket x) × (q ≡ item))
+behind-so : (q r r' : Stage) (e : Tree) (p : Place) (x : Part) → step q (tree e p) ≡ Some r → step r x ≡ Some r'
+    → IsTrue (is_bar x) ⊎ (IsTrue (is_bracket x) × (q ≡ item))
 behind-so maybe operand_read r' e p comma g h = inl refl
 behind-so maybe operand_read r' e p (effect b) g h = inl refl
 behind-so maybe operand_read r' e p line_end g h = inl refl
@@ -542,7 +546,8 @@ behind-so count_next count_read r' e p x g h = absurd cc
 behind-so count_next r r' e p x g h = absurd cc
 behind-so q r r' e p x g h = absurd cc
 
-behind-token : (q r r' : Stage) (e : Tree) (p : Place) (t : LineToken) → go q (tree e p) ≡ Some r → go r (of_token t) ≡ Some r' → (w : Word) → Bars (setting q) (lexeme t)
+behind-token : (q r r' : Stage) (e : Tree) (p : Place) (t : LineToken) → go q (tree e p) ≡ Some r → go r (of_token t) ≡ Some r' → (w : Word)
+    → Bars (setting q) (lexeme t)
 behind-token q r r' e p t g h w =
     by (behind-so q r r' e p (of_token t) (known-step q (tree e p) g).0 (known-step r (of_token t) h).0)
   where
@@ -672,7 +677,9 @@ items-lead read (before None) (size n p ∷ ps) h = let it = items-lead read (be
 items-lead read (before None) (tree e p ∷ ps) h = let it = items-lead read (behind None e) ps h in record { along = it.along; is = it.is }
 items-lead read (before None) (text t p ∷ ps) h = let it = items-lead read (over None (node p (Str t)) None) ps h in record { along = it.along; is = it.is }
 items-lead read (before (Some n)) (tree e p ∷ ps) h = let it = items-lead read (behind (Some n) e) ps h in record { along = it.along; is = it.is }
-items-lead read (before (Some n)) (text t p ∷ ps) h = let it = items-lead read (over (Some n) (node p (Str t)) None) ps h in record { along = it.along; is = it.is }
+items-lead read (before (Some n)) (text t p ∷ ps) h =
+    let it = items-lead read (over (Some n) (node p (Str t)) None) ps h in
+    record { along = it.along; is = it.is }
 items-lead read (behind s e) [] h = record { along = refl; is = h }
 items-lead read (behind s e) (comma ∷ ps) h = let it = items-lead (read ++ datum s e None ∷ []) (before None) ps h in record { along = it.along; is = it.is }
 items-lead read (behind s e) (left_bracket ∷ ps) h = let it = items-lead read (open_bracket s e) ps h in record { along = it.along; is = it.is }
@@ -812,7 +819,8 @@ local-is t u n e is =
     (operand (variable refl (named (local_label refl is))) (a_word (a_word nothing)))
 
 -- an expression behind `#`
-expression-read : (e : Tree) (first : LineToken) (others : List LineToken) {ps : List Part} {ts : List LineToken} → IsExpression in_dat e (terms (first ∷ others))
+expression-read : (e : Tree) (first : LineToken) (others : List LineToken) {ps : List Part} {ts : List LineToken}
+    → IsExpression in_dat e (terms (first ∷ others))
     → (u : LineToken) (us : List LineToken) → ts ≡ u ∷ us → Reads table operand_read ps ts
     → Reads table hashed (tree e first.place ∷ ps) ((first ∷ others) ++ ts)
 expression-read e first others {ps = ps} is u us split x =
@@ -883,7 +891,8 @@ only-colon x n p ps plain apart h = cc
 -- a token behind `#`
 token-hashed : {ws : List Word} {row : List Piece} {ts : List LineToken} (t : LineToken) (x : said.Row in_data ws row ts) → is_label_row x ≡ false
     → IsTrue (leads hashed (canonical true (before_end (of_token t ∷ map part_of_piece row))))
-    → (is_size_part (of_token t) ≡ false → is_bracket (of_token t) ≡ false → IsTrue (leads operand_read (canonical false (before-end-of row))) → Whole operand_read (canonical false (before-end-of row)) ts)
+    → (is_size_part (of_token t) ≡ false → is_bracket (of_token t) ≡ false → IsTrue (leads operand_read (canonical false (before-end-of row)))
+    → Whole operand_read (canonical false (before-end-of row)) ts)
     → Whole hashed (canonical true (before_end (of_token t ∷ map part_of_piece row))) (t ∷ ts)
 token-hashed {row = row} {ts = ts} t x l h later = by (sort t)
   where
@@ -899,7 +908,8 @@ token-hashed {row = row} {ts = ts} t x l h later = by (sort t)
         let never : IsTrue (leads hashed (canonical true (text s t.place ∷ before-end-of row))) =
         subst (λ (y : Part). IsTrue (leads hashed (canonical true (before_end (y ∷ map part_of_piece row))))) (ap part_of_piece e) h in absurd cc
     by (a_word e) =
-        absurd (no-word (of_token t) (map part_of_piece row) (plain-token t) (ap is_name (ap part_of_piece e) ∙ word-no-name (word t) t.place) (not-label x l) h)
+        absurd
+        (no-word (of_token t) (map part_of_piece row) (plain-token t) (ap is_name (ap part_of_piece e) ∙ word-no-name (word t) t.place) (not-label x l) h)
 
 -- a local label behind `#`
 label-hashed : {ws : List Word} {row : List Piece} {ts : List LineToken} (t u : LineToken) (n : List ℕ) → name_in (lexeme u) ≡ Some n
@@ -908,7 +918,8 @@ label-hashed : {ws : List Word} {row : List Piece} {ts : List LineToken} (t u : 
     → Whole hashed (canonical true (before_end (of_token t ∷ behind_colon n u.place ∷ map part_of_piece row))) (t ∷ u ∷ ts)
 label-hashed {row = row} {ts = ts} t u n is x h later = by (is_colon (of_token t)) refl
   where
-    by : (b : Bool) → is_colon (of_token t) ≡ b → Whole hashed (canonical true (before_end (of_token t ∷ behind_colon n u.place ∷ map part_of_piece row))) (t ∷ u ∷ ts)
+    by : (b : Bool) → is_colon (of_token t) ≡ b
+        → Whole hashed (canonical true (before_end (of_token t ∷ behind_colon n u.place ∷ map part_of_piece row))) (t ∷ u ∷ ts)
     by false e = absurd (only-colon (of_token t) n u.place (map part_of_piece row) (plain-token t) e h)
     by true e =
         let w = colon-word (word t) t.place (by-word is_colon t (λ n p. refl) (λ x p. refl) e) in
@@ -920,7 +931,8 @@ label-hashed {row = row} {ts = ts} t u n is x h later = by (is_colon (of_token t
         (expression-read (label (local n) t.place) t (u ∷ []) (local-is t u n (colon_lexeme t w) is) f.token-there f.rest f.split (later w here))
 
 -- behind such a name
-name-known : (t : LineToken) (ws : List Word) → Known hashed ws → is_size_part (of_token t) ≡ false → is_bracket (of_token t) ≡ false → Known operand_read (word t ∷ ws)
+name-known : (t : LineToken) (ws : List Word) → Known hashed ws → is_size_part (of_token t) ≡ false → is_bracket (of_token t) ≡ false
+    → Known operand_read (word t ∷ ws)
 name-known t ws known s b = (
   ap₂ (λ (a : Bool) (b : Bool). a || b) (size-token t ∙ s) known.0,
   open-token t ws ∙ b,
@@ -929,7 +941,8 @@ name-known t ws known s b = (
 convert : {ws : List Word} {row : List Piece} {ts : List LineToken} → said.Row in_data ws row ts → (b : Bool) (q : Stage) → is_hashed q ≡ b → Known q ws
     → IsTrue (list_all is_known (map part_of_piece row)) → IsTrue (leads q (canonical b (before-end-of row))) → Whole q (canonical b (before-end-of row)) ts
 convert (said.last t (inl w)) false q e known k h =
-    subst (λ (y : Part). IsTrue (leads q (canonical false (before_end (y ∷ [])))) → Whole q (canonical false (before_end (y ∷ []))) (t ∷ [])) (sym (end-token t w))
+    subst (λ (y : Part). IsTrue (leads q (canonical false (before_end (y ∷ [])))) → Whole q (canonical false (before_end (y ∷ []))) (t ∷ []))
+    (sym (end-token t w))
     (λ g. last-read q t w g) h
 convert (said.last t (inr w)) false q e known k h =
     absurd (colon-last q t.place (subst (λ (y : Part). IsTrue (leads q (canonical false (before_end (y ∷ []))))) (colon-token t w) h))
@@ -940,20 +953,23 @@ convert {ws = ws} (said.a_token {row = row} {ts = ts} t n x) false q e known k h
     let it = gone (λ r. leads r (canonical (is_hash y) qs)) (step q y) (subst (λ (l : List Part). IsTrue (leads q (canonical false l))) f h) in
     let b = hash-so q y it.1 in
     let all = both (is_known y) (list_all is_known (map part_of_piece row)) k in
-    let rest = convert x (is_hashed it.0) it.0 refl (token-known q it.0 ws t known it.1) all.1 (subst (λ (b : Bool). IsTrue (leads it.0 (canonical b qs))) b it.2) in
+    let rest = convert x (is_hashed it.0) it.0 refl (token-known q it.0 ws t known it.1) all.1
+    (subst (λ (b : Bool). IsTrue (leads it.0 (canonical b qs))) b it.2) in
     subst (λ (l : List Part). Whole q (canonical false l) (t ∷ ts)) (sym f)
     (a_token t n (step-known q y all.0 it.1) (subst (λ (b : Bool). Whole it.0 (canonical b qs) ts) (sym b) rest))
 convert {ws = ws} (said.a_label {row = row} {ts = ts} {n = n} t is x) false q e known k h =
     let qs = before-end-of row in
     let it = gone (λ r. leads r (canonical false qs)) (step q (behind_colon n t.place)) h in
     let b = hash-so q (behind_colon n t.place) it.1 in
-    let rest = convert x (is_hashed it.0) it.0 refl (label-known q it.0 ws n t.place known it.1) k (subst (λ (b : Bool). IsTrue (leads it.0 (canonical b qs))) b it.2) in
+    let rest = convert x (is_hashed it.0) it.0 refl (label-known q it.0 ws n t.place known it.1) k
+    (subst (λ (b : Bool). IsTrue (leads it.0 (canonical b qs))) b it.2) in
     a_label t is (step-known q (behind_colon n t.place) refl it.1) (subst (λ (b : Bool). Whole it.0 (canonical b qs) ts) (sym b) rest)
 convert {ws = ws} (said.an_expression {row = row} {ts = ts} {e = e} first others t is x) false q o known k h =
     let qs = before-end-of row in
     let it = gone (λ r. leads r (canonical false qs)) (step q (tree e first.place)) h in
     let b = hash-so q (tree e first.place) it.1 in
-    let rest = convert x (is_hashed it.0) it.0 refl (tree-known q it.0 ws e first.place known it.1) k (subst (λ (b : Bool). IsTrue (leads it.0 (canonical b qs))) b it.2) in
+    let rest = convert x (is_hashed it.0) it.0 refl (tree-known q it.0 ws e first.place known it.1) k
+    (subst (λ (b : Bool). IsTrue (leads it.0 (canonical b qs))) b it.2) in
     an_expression first others t
     (subst (λ (s : Setting). IsExpression s e (terms (first ∷ others))) (fits q ws (word t) (ahead q (tree e first.place) it.1) known) is)
     (step-known q (tree e first.place) refl it.1) (subst (λ (b : Bool). Whole it.0 (canonical b qs) (t ∷ ts)) (sym b) rest)
@@ -992,7 +1008,8 @@ abbrev place_first : List LineToken → Place
 place_first [] = somewhere
 place_first (t ∷ ts) = t.place
 
-said-so : {ws : List Word} {row : List Piece} {ts : List LineToken} → said.Row in_data ws row ts → lines_of_row row ≡ said_by (place_first ts) (before-end-of row)
+said-so : {ws : List Word} {row : List Piece} {ts : List LineToken} → said.Row in_data ws row ts
+    → lines_of_row row ≡ said_by (place_first ts) (before-end-of row)
 said-so (said.last t e) = ap (λ (p : Place). said_by p (before_end (of_token t ∷ []))) (piece-place t)
 said-so (said.a_token {row = row} t n x) = ap (λ (p : Place). said_by p (before_end (of_token t ∷ map part_of_piece row))) (piece-place t)
 said-so (said.a_label t is x) = refl

@@ -1,6 +1,6 @@
 -- A line of CON, VAR or OBJ, and the head of a method, is read in one way.
-use Rattle.std.proofs.Common.{◌≡◌, ◌∙◌, sym, ap, subst, refl, ℕ, Bool, true, false, List, [], ◌∷◌, ◌++◌, map, Option, Some, None}
-use Rattle.std.specs.Prelude.{IsTrue, if◌then◌else◌, not, option_map}
+use Rattle.std.proofs.Common.{◌≡◌, ◌∙◌, sym, ap, subst, refl, ℕ, Bool, true, false, List, [], ◌∷◌, ◌++◌, Option, Some, None}
+use Rattle.std.specs.Prelude.{IsTrue, if◌then◌else◌, option_map}
 use Rattle.p8_tree.specs.declared.places.Place.{Place}
 use Rattle.p8_tree.specs.Expressions.{Tree}
 use Rattle.p8_tree.specs.Sources.{Constant, Declared, Child, MethodTree}
@@ -9,16 +9,17 @@ use Rattle.p8_lexer.specs.declared.word.Word.TheVariants as words
 use Rattle.p8_lexer.specs.Pieces as pieces
 use Rattle.p8_lexer.specs.Pieces.{Piece}
 use Rattle.p8_grammar.specs.Lexemes.{Setting, in_method, in_declaration}
-use Rattle.p8_grammar.specs.Grammar.{IsExpression}
-use Rattle.p8_lines.specs.Tokens.{LineToken, word, lexeme, terms, piece}
-use Rattle.p8_declarations.specs.Parts.{Part, line_end, comma, equals, hash, colon, bar, left_parenthesis, right_parenthesis, left_bracket, right_bracket, size, name, text, tree, other, part_of_word, part_of_piece, parts, is_line_end, ended, with_first}
+use Rattle.p8_lines.specs.Tokens.{LineToken, word, lexeme, piece}
+use Rattle.p8_declarations.specs.Parts.{Part, line_end, comma, equals, hash, colon, bar, left_parenthesis, right_parenthesis, left_bracket}
+use Rattle.p8_declarations.specs.Parts.{right_bracket, size, name, text, tree, other, part_of_word, part_of_piece, parts, is_line_end, ended}
+use Rattle.p8_declarations.specs.Parts.{with_first}
 use Rattle.p8_declarations.specs.Constants.{constants, constants_named, constants_behind, constants_of_row}
 use Rattle.p8_declarations.specs.Variables.{variables, variables_named, variables_behind, sized_variables, variables_of_row}
 use Rattle.p8_declarations.specs.Objects.{in_file, object_named, object, alone, objects_of_row}
 use Rattle.p8_declarations.specs.Methods.{behind_result, result_named, behind_parameters, parameters, behind_parameter, behind_name, head, method_of_row}
 use Rattle.p8_prop.specs.Sources as said
 use Rattle.p8_prop.specs.Sources.{Spelling, declared, headed}
-use Rattle.p8_prop.proofs.Barred.{Bars, begins-none}
+use Rattle.p8_prop.proofs.Barred.{Bars}
 use Rattle.p8_prop.proofs.Marks.{Sort, a_name, a_text, a_word, sort, closes, closes-bars, is_block, block-piece}
 use Rattle.p8_prop.proofs.OneRow.{Table, Reads, last, a_token, a_label, an_expression, IsClear, one, some-one, run, reads}
 
@@ -100,8 +101,12 @@ token-bars : (s : Setting) (t : LineToken) → IsTrue (may_follow (part_of_piece
 token-bars s t h = of (sort t)
   where
     of : Sort t → Bars s (lexeme t)
-    of (a_name n is e) = let never : IsTrue (may_follow (part_of_piece (pieces.name n t.place))) = subst (λ (x : Piece). IsTrue (may_follow (part_of_piece x))) e h in absurd cc
-    of (a_text x is e) = let never : IsTrue (may_follow (part_of_piece (pieces.text x t.place))) = subst (λ (x : Piece). IsTrue (may_follow (part_of_piece x))) e h in absurd cc
+    of (a_name n is e) =
+        let never : IsTrue (may_follow (part_of_piece (pieces.name n t.place))) = subst (λ (x : Piece). IsTrue (may_follow (part_of_piece x))) e h in
+        absurd cc
+    of (a_text x is e) =
+        let never : IsTrue (may_follow (part_of_piece (pieces.text x t.place))) = subst (λ (x : Piece). IsTrue (may_follow (part_of_piece x))) e h in
+        absurd cc
     of (a_word e) =
         closes-bars s t (word t) refl
         (when-true (may_follow (part_of_word (word t) t.place)) (closes (word t)) (subst (λ (x : Piece). IsTrue (may_follow (part_of_piece x))) e h)
@@ -268,7 +273,8 @@ IsReadOnce {X} spelled value = (x x' : X) (ts ts' rest rest' : List LineToken) �
 
 -- no line of these begins with the word of a block
 abbrev pub BeginsNoBlock : {X : Type 0} → Spelling → (List Piece → Option X) → Type 0
-BeginsNoBlock {X} spelled value = (x : X) (t : LineToken) (ts us : List LineToken) → said.IsLine spelled value x us → us ≡ t ∷ ts → IsTrue (is_block (word t)) → ⊥
+BeginsNoBlock {X} spelled value =
+    (x : X) (t : LineToken) (ts us : List LineToken) → said.IsLine spelled value x us → us ≡ t ∷ ts → IsTrue (is_block (word t)) → ⊥
 
 word-other : (w : Word) (p : Place) → IsTrue (is_block w) → part_of_word w p ≡ other
 unfolding part_of_word

@@ -1,6 +1,6 @@
 -- Where a table of states tells which piece may stand next, one row of pieces stands for given tokens: no token that may stand at a state begins an
 -- expression there, and none that may stand behind an expression goes on with it.
-use Rattle.std.proofs.Common.{◌≡◌, ◌⊎◌, inl, inr, ◌∙◌, sym, ap, subst, refl, ℕ, Bool, true, false, List, [], ◌∷◌, ◌++◌, map, Option, Some, None, append_assoc}
+use Rattle.std.proofs.Common.{◌≡◌, ◌⊎◌, inl, inr, ◌∙◌, sym, ap, subst, refl, ℕ, Bool, false, List, [], ◌∷◌, ◌++◌, map, Option, Some, None, append_assoc}
 use Rattle.std.specs.Prelude.{IsTrue}
 use Rattle.p8_tree.specs.declared.places.Place.{Place}
 use Rattle.p8_tree.specs.Expressions.{Tree}
@@ -10,12 +10,12 @@ use Rattle.p8_lexer.specs.Pieces.{Piece, tree, label}
 use Rattle.p8_grammar.specs.Lexemes.{Setting, Token, name_in}
 use Rattle.p8_grammar.specs.Grammar.{IsExpression}
 use Rattle.p8_grammar.proofs.Live.{one_tree}
-use Rattle.p8_lines.specs.Tokens.{LineToken, word, lexeme, term, terms, piece}
+use Rattle.p8_lines.specs.Tokens.{LineToken, word, lexeme, terms, piece}
 use Rattle.p8_lines.proofs.Splits.{Compared, same, beyond, short, compare}
 use Rattle.p8_lines.proofs.Ways.{terms_append}
 use Rattle.p8_prop.specs.Sources as said
 use Rattle.p8_prop.specs.Sources.{Spelling}
-use Rattle.p8_prop.proofs.Barred.{Bars, Alike, begins-none, no-longer}
+use Rattle.p8_prop.proofs.Barred.{Bars, Alike, no-longer}
 
 -- what a piece is to the table, where an expression stands by the word behind it, which state follows, and which is one of whole rows
 pub record Table (P Q : Type 0) : Type 0 where
@@ -101,7 +101,8 @@ module _ {P Q : Type 0} (d : Table P Q) (clear : IsClear d) where
     goes : d.go q (d.part (tree e first.place)) ≡ Some state
     rest : Reads d state ps (t ∷ ts)
 
-  longer : {q : Q} {e e' : Tree} {first first' t t' u : LineToken} {others others' ts ts' : List LineToken} {ps ps' : List P} (more : List LineToken) → Read q e first others t ps ts
+  longer : {q : Q} {e e' : Tree} {first first' t t' u : LineToken} {others others' ts ts' : List LineToken} {ps ps' : List P} (more : List LineToken)
+      → Read q e first others t ps ts
       → Read q e' first' others' t' ps' ts' → first ∷ others ≡ (first' ∷ others') ++ u ∷ more → t' ≡ u → ⊥
   longer {q = q} {e = e} {first' = first'} {t = t} {t' = t'} {u = u} {others' = others'} {ts' = ts'} more x y split firsts =
       no-longer (d.setting q (word t')) (d.setting q (word t)) (terms (first' ∷ others')) (terms more) u.place (lexeme u) (clear.alike q (word t') (word t))
@@ -113,7 +114,8 @@ module _ {P Q : Type 0} (d : Table P Q) (clear : IsClear d) where
       → ((ps' : List P) (vs : List LineToken) → Reads d x.state ps' vs → (t ∷ ts) ++ rest ≡ vs ++ rest' → Same ps ps' (t ∷ ts) vs)
       → ((first ∷ others) ++ t ∷ ts) ++ rest ≡ ((first' ∷ others') ++ t' ∷ ts') ++ rest'
       → Same (d.part (tree e first.place) ∷ ps) (d.part (tree e' first'.place) ∷ ps') ((first ∷ others) ++ t ∷ ts) ((first' ∷ others') ++ t' ∷ ts')
-  two {q = q} {e = e} {e' = e'} {first = first} {first' = first'} {t = t} {t' = t'} {others = others} {others' = others'} {ts = ts} {ts' = ts'} {ps = ps} {ps' = ps'} rest rest' x y later split =
+  two {q = q} {e = e} {e' = e'} {first = first} {first' = first'} {t = t} {t' = t'} {others = others} {others' = others'} {ts = ts} {ts' = ts'} {ps = ps}
+      {ps' = ps'} rest rest' x y later split =
       decide (compare (first ∷ others) (t ∷ (ts ++ rest)) (first' ∷ others') (t' ∷ (ts' ++ rest'))
       (sym (append_assoc (first ∷ others) (t ∷ ts) rest) ∙ split ∙ append_assoc (first' ∷ others') (t' ∷ ts') rest'))
     where
@@ -139,7 +141,9 @@ module _ {P Q : Type 0} (d : Table P Q) (clear : IsClear d) where
       let firsts : t ≡ u = cc in record { parts = λ i. d.part (piece (firsts i)) ∷ []; tokens = λ i. firsts i ∷ [] }
   one rest rest' (last t e g h) (a_token u n g' x) split = let firsts : t ≡ u = cc in absurd (ends-here t u firsts e g h n g' x)
   one {q = q} rest rest' (last {r = r} t e g h) (a_label {r = r'} {n = n} u is g' x) split = absurd (clear.token-label q r r' t n u.place g g')
-  one rest rest' (last t e g h) (an_expression first others u is g' x) split = let firsts : t ≡ first = cc in absurd (no-tree t first others (word u) firsts g is g')
+  one rest rest' (last t e g h) (an_expression first others u is g' x) split =
+      let firsts : t ≡ first = cc in
+      absurd (no-tree t first others (word u) firsts g is g')
   one rest rest' (a_token t n g x) (last u e g' h) split = let firsts : u ≡ t = cc in absurd (ends-here u t firsts e g' h n g x)
   one {q = q} rest rest' (a_token {ps = ps} t n g x) (a_token {ps = ps'} {ts = ts'} u m g' y) split =
       let firsts : t ≡ u = cc in
@@ -158,7 +162,9 @@ module _ {P Q : Type 0} (d : Table P Q) (clear : IsClear d) where
       record { parts = λ i. heads i ∷ z.parts i; tokens = λ i. firsts i ∷ z.tokens i }
   one {q = q} rest rest' (a_label {r = r} {n = n} t is g x) (an_expression {r = r'} {e = e} first others u is' g' y) split =
       absurd (clear.label-tree q r r' n t.place e first.place g g')
-  one rest rest' (an_expression first others u is g' x) (last t e g h) split = let firsts : t ≡ first = cc in absurd (no-tree t first others (word u) firsts g is g')
+  one rest rest' (an_expression first others u is g' x) (last t e g h) split =
+      let firsts : t ≡ first = cc in
+      absurd (no-tree t first others (word u) firsts g is g')
   one rest rest' (an_expression first others u is g' y) (a_token t n g x) split =
       let firsts : t ≡ first = cc in absurd (no-tree t first others (word u) firsts g is g')
   one {q = q} rest rest' (an_expression {r = r'} {e = e} first others u is' g' y) (a_label {r = r} {n = n} t is g x) split =

@@ -1,8 +1,8 @@
 -- A line of a method is read in one way.
-use Rattle.std.proofs.Common.{◌≡◌, ◌∙◌, sym, ap, subst, refl, ℕ, Bool, true, false, List, [], ◌∷◌, ◌++◌, map, Option, Some, None}
-use Rattle.std.specs.Prelude.{IsTrue, if◌then◌else◌, not, option_map, option_and_then}
+use Rattle.std.proofs.Common.{◌≡◌, ◌∙◌, sym, ap, subst, refl, ℕ, Bool, true, false, List, [], ◌∷◌, map, Option, Some, None}
+use Rattle.std.specs.Prelude.{IsTrue, if◌then◌else◌, option_map, option_and_then}
 use Rattle.p8_tree.specs.declared.places.Place.{Place}
-use Rattle.p8_tree.specs.Expressions.{Tree, Item, Items, no_items, ◌▸◌}
+use Rattle.p8_tree.specs.Expressions.{Tree, Items, no_items, ◌▸◌}
 use Rattle.p8_tree.specs.Statements.{Course, Count, From}
 use Rattle.p8_columns.specs.Lines.{Kind, Item as ItemLine}
 use Rattle.p8_lexer.specs.declared.word.Word.{Word}
@@ -10,13 +10,13 @@ use Rattle.p8_lexer.specs.declared.word.Word.TheVariants as words
 use Rattle.p8_lexer.specs.Pieces as pieces
 use Rattle.p8_lexer.specs.Pieces.{Piece}
 use Rattle.p8_grammar.specs.Lexemes.{Setting, in_method, in_action, is_dat}
-use Rattle.p8_grammar.specs.Grammar.{IsExpression}
 use Rattle.p8_lines.specs.Tokens.{LineToken, word, lexeme, terms, piece}
 use Rattle.p8_statements.specs.declared.role.Role.{Role}
 use Rattle.p8_statements.specs.declared.role.Role.TheVariants as role
-use Rattle.p8_statements.specs.Roles.{role_of, is_comma, is_dot_dot, is_colon, is_from, is_to, is_step, is_line_end}
-use Rattle.p8_statements.specs.Rows.{◌▶◌, word_in, phrase, is_empty, is_end, ended, ends, ending, value_in}
-use Rattle.p8_statements.specs.Statements.{maybe_value, counted, counting, counter, course_by, course_before, course, test, unless_in_range, is_last_colon, behind_value, tests_after, other_line, line, is_item, statement, kind_of_row}
+use Rattle.p8_statements.specs.Roles.{role_of, is_to}
+use Rattle.p8_statements.specs.Rows.{◌▶◌, phrase, is_end, ended, ends, ending, value_in}
+use Rattle.p8_statements.specs.Statements.{maybe_value, counted, counting, counter, course_by, course_before, course, test, unless_in_range}
+use Rattle.p8_statements.specs.Statements.{is_last_colon, behind_value, tests_after, other_line, line, is_item, statement, kind_of_row}
 use Rattle.p8_blocks.proofs.Pieces.{word_piece}
 use Rattle.p8_prop.specs.Sources as said
 use Rattle.p8_prop.specs.Sources.{in_text}
@@ -311,7 +311,8 @@ map-same (x ∷ row) = ap (λ (l : List Piece). x ∷ l) (map-same row)
 read : {k : Kind} {ts : List LineToken} (it : said.IsLine in_text kind_of_row k ts) → Reads table first it.0 ts
 read {ts = ts} it =
     subst (λ (row : List Piece). Reads table first row ts) (map-same it.0)
-    (reads table in_text Known fits (λ q r before t known g. word-known (piece t) r before (word t) (go-word q t g)) (λ q r before n p known g. absurd (no-label q n p g))
+    (reads table in_text Known fits (λ q r before t known g. word-known (piece t) r before (word t) (go-word q t g))
+    (λ q r before n p known g. absurd (no-label q n p g))
     (λ q r before e p known g. tree-known q r before e p g) it.1 first refl
     (subst (λ (row : List Piece). IsTrue (runs first row)) (sym (map-same it.0)) (row-run it.0 it.2)))
 
@@ -343,7 +344,8 @@ no-block t (a_token u n g x) split b = let firsts : u ≡ t = cc in block-none u
 no-block t (a_label {n = n} u is g x) split b = no-label first n u.place g
 no-block t (an_expression begin others u is g x) split b =
     let firsts : begin ≡ t = cc in
-    begins-none (setting first (word u)) (terms others) begin.place (lexeme begin) (block-bars (setting first (word u)) begin (word begin) refl (same-block t begin firsts b)) is
+    begins-none (setting first (word u)) (terms others) begin.place (lexeme begin)
+    (block-bars (setting first (word u)) begin (word begin) refl (same-block t begin firsts b)) is
 
 pub statements-apart : BeginsNoBlock in_text kind_of_row
 statements-apart x t ts us it split b = no-block t (read it) split b
@@ -353,7 +355,8 @@ unfolding role_of
 word-none row p = refl
 
 -- no line is the end of a line alone
-not-blank : {k : Kind} {row : List Piece} {ts us : List LineToken} (t : LineToken) → word t ≡ words.LineEnd → said.Row in_text [] row us → kind_of_row row ≡ Some k
+not-blank : {k : Kind} {row : List Piece} {ts us : List LineToken} (t : LineToken) → word t ≡ words.LineEnd → said.Row in_text [] row us
+    → kind_of_row row ≡ Some k
     → us ≡ t ∷ ts → ⊥
 not-blank {k = k} t e (said.last u w) is split =
     let firsts : u ≡ t = cc in
