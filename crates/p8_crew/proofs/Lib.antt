@@ -1,3 +1,4 @@
 mod Places
 mod Endings
 mod Turning
+mod Counting

@@ -4,7 +4,7 @@ ghost use Rattle.p8_crew.specs.Starts.{starts_before, after_start};
 ghost use Rattle.std.specs.Arc.{arc_value};
 ghost use Rattle.p8_crew.specs.Jobs.{ComesBack};
 ghost use Rattle.p8_desk.specs.Passes.{Owns};
-ghost use Rattle.p8_io.specs.Counts.{Rose, raised};
+ghost use Rattle.p8_io.specs.Counts.{raised};
 
 use crate::job::CogJob;
 use crate::starter::{Starter, Worker};
@@ -83,7 +83,7 @@ impl<F: Starter> Starter for FailStarter<F> {
     /// None where the start is the one to be refused, and else what the other starter gives.
     fn worker(&mut self, cog: u8) -> Option<F::Worker>
         ensures given { OnSome result (F.refused self.new.inner ≡ F.refused self.old.inner) }
-        ensures none { IfNone result (Rose (F.refused self.old.inner) (F.refused self.new.inner)) }
+        ensures none { IfNone result (F.refused self.new.inner ≡ raised (F.refused self.old.inner)) }
         ensures may { IfNone result ((self.old.before ≡ Some 0) ⊎ F.may_refuse self.old.inner) }
         ensures refuses { IfSome result (λ worker. self.old.before ≢ Some 0) }
         ensures before { self.new.before ≡ after_start self.old.before }

@@ -9,7 +9,7 @@ ghost use Rattle.p8_desk.specs.PassSets.{AllThere};
 ghost use Rattle.p8_desk.specs.Passes.{PassValue};
 ghost use Rattle.p8_access.specs.Histories.{Legal, Rises, Ended as HasEnded};
 ghost use Rattle.p8_hub.specs.Standing.{IsHub};
-ghost use Rattle.p8_io.specs.Counts.{Rose};
+ghost use Rattle.p8_io.specs.Counts.{raised};
 ghost use Rattle.p8_cog.specs.Lives.{asks};
 ghost use Rattle.p8_ledger.specs.Worlds.{world_of};
 
@@ -39,7 +39,7 @@ impl Crew {
         requires out { AreThere (arc_value self.old.desk) 0 0 self.old.passes }
         ensures desk { arc_value self.new.desk ≡ arc_value self.old.desk }
         ensures there { AreThere (arc_value self.old.desk) 0 (length jobs.items) self.new.passes }
-        ensures count { MatchBool result (F.refused starter.new ≡ F.refused starter.old) (Rose (F.refused starter.old) (F.refused starter.new)) }
+        ensures count { MatchBool result (F.refused starter.new ≡ F.refused starter.old) (F.refused starter.new ≡ raised (F.refused starter.old)) }
     {
         let mut jobs = jobs;
         let Some(job) = jobs.pop() else {

@@ -3,7 +3,7 @@ ghost use Rattle.std.specs.Prelude.{◌≡◌, OnSome, IfNone};
 ghost use Rattle.std.specs.Arc.{arc_value};
 ghost use Rattle.p8_crew.specs.Jobs.{ComesBack};
 ghost use Rattle.p8_desk.specs.Passes.{Owns};
-ghost use Rattle.p8_io.specs.Counts.{Rose};
+ghost use Rattle.p8_io.specs.Counts.{raised};
 
 use crate::job::CogJob;
 use p8_desk::CogPass;
@@ -31,13 +31,13 @@ pub trait Starter {
     // Whether the next start may be refused for want of a worker.
     ghost may_refuse: { Self → Type 0 };
 
-    /// The worker for the job of a cog; none where its start is refused, and then the count rose.
+    /// The worker for the job of a cog; none where its start is refused, which is counted then.
     fn worker(&mut self, cog: u8) -> Option<Self::Worker>
         ensures given { OnSome result (refused self.new ≡ refused self.old) }
-        ensures none { IfNone result (Rose (refused self.old) (refused self.new)) }
+        ensures none { IfNone result (refused self.new ≡ raised (refused self.old)) }
         ensures may { IfNone result (may_refuse self.old) };
 
     /// Counts a start for which no thread could be made.
     fn refuse(&mut self)
-        ensures { Rose (refused self.old) (refused self.new) };
+        ensures { refused self.new ≡ raised (refused self.old) };
 }

@@ -3,7 +3,7 @@ ghost use Rattle.std.specs.Prelude.{◌≡◌, IfOk, IfErr, OnOk, OnErr};
 ghost use Rattle.std.specs.Arc.{arc_value};
 ghost use Rattle.p8_crew.specs.Jobs.{ComesBack};
 ghost use Rattle.p8_desk.specs.Passes.{Owns};
-ghost use Rattle.p8_io.specs.Counts.{Rose};
+ghost use Rattle.p8_io.specs.Counts.{raised};
 
 use crate::gate::Gate;
 use crate::job::CogJob;
@@ -90,7 +90,7 @@ fn start_worker<
 /// # Errors
 ///
 /// Where the start is refused the job's gate is called off and its pass given back, of the same cog and desk, and over or
-/// as it was. The starter's count of refused starts rose then.
+/// as it was. The starter's count of refused starts is one step on then.
 pub fn start<R: Threads + Wait + Clone + Send + Drop + 'static, F: Starter>(
     rt: &R,
     starter: &mut F,
@@ -100,7 +100,7 @@ pub fn start<R: Threads + Wait + Clone + Send + Drop + 'static, F: Starter>(
     ensures started { IfOk result (λ ticket. ticket ≡ job.pass) }
     ensures back { IfErr result (λ pass. ComesBack job.pass pass) }
     ensures counted { OnOk result (F.refused starter.new ≡ F.refused starter.old) }
-    ensures refused { OnErr result (Rose (F.refused starter.old) (F.refused starter.new)) }
+    ensures refused { OnErr result (F.refused starter.new ≡ raised (F.refused starter.old)) }
 {
     let Some(worker) = starter.worker(job.pass.cog()) else {
         return Err(give_up(rt, job));
