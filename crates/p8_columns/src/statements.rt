@@ -11,6 +11,16 @@ use crate::line::Action;
 use p8_tree::{Arm, Expr, Item, List, Loop, Place, Stmt, StmtKind};
 use std::alloc::{AllocError, Global};
 
+// Room for one, where there is none yet: most bodies, chains and tests have one element, for which a first push takes room for four.
+fn make_room<T>(items: &mut Vec<T>) -> Result<(), AllocError>
+    ensures { items.new.items ≡ items.old.items }
+{
+    if items.is_empty() {
+        items.reserve_exact(1)?;
+    }
+    Ok(())
+}
+
 /// The statement that a line is by itself.
 pub fn plain(action: Action) -> StmtKind
     ensures { action_of result ≡ plain_of action }
@@ -44,13 +54,14 @@ pub fn condition(
 ) -> Result<Arm, AllocError>
     ensures { IfOk result (λ a. arm_of a ≡ condition negated (tree_of test) (statements_of body.items)) }
 {
-    let mut tests = List::new(alloc);
+    let mut tests = Vec::new(alloc);
+    make_room(&mut tests)?;
     tests.push(Item {
         low: test,
         high: None,
     })?;
     Ok(Arm {
-        tests,
+        tests: List::from_vec(tests),
         negated,
         body,
     })
@@ -72,6 +83,7 @@ pub fn with_another(arms: Vec<Arm>, arm: Arm) -> Result<Vec<Arm>, AllocError>
     ensures { IfOk result (λ v. arms_of v.items ≡ arms_of arms.items ⊳ arm_of arm) }
 {
     let mut arms = arms;
+    make_room(&mut arms)?;
     arms.push(arm)?;
     Ok(arms)
 }
@@ -127,6 +139,7 @@ fn with_last(statements: Vec<Stmt>, last: Stmt) -> Result<Vec<Stmt>, AllocError>
     ensures { IfOk result (λ v. statements_of v.items ≡ statements_of statements.items ▹ statement_of last) }
 {
     let mut statements = statements;
+    make_room(&mut statements)?;
     statements.push(last)?;
     Ok(statements)
 }
