@@ -20,8 +20,8 @@ use Rattle.p8_dat.proofs.ToldOfLine.{as_match}
 use Rattle.p8_dat.specs.declared.spots.Spot.{Spot}
 use Rattle.p8_dat.specs.declared.placing.Placed as code
 use Rattle.p8_dat.specs.Spots.{Placed, placed, behind_lines}
-use Rattle.p8_dat.specs.Names.{with_label, with_common, is_named, label_at, regions}
-use Rattle.p8_dat.specs.Blocks.{block_lines, dat_lines, counts_setting, placed_lines, values_setting, regions_bytes, FaultInRegions, dat_bytes, IsDatFault}
+use Rattle.p8_dat.specs.Names.{without_labels, with_labels, with_label, with_common, is_named, label_at, regions}
+use Rattle.p8_dat.specs.Blocks.{block_lines, dat_lines, first_spot, counts_setting, placed_lines, values_setting, regions_bytes, FaultInRegions, dat_bytes, IsDatFault}
 use Rattle.p8_dat.specs.First.{told_in_regions}
 use Rattle.p8_dat.specs.Placing.{placed_of, unplaced, is_local_label, has_local, AreHidden}
 use Rattle.p8_dat.proofs.Settings.{same_settings}
@@ -37,6 +37,25 @@ next_blocks s bs b p q old new rest some first behind put is =
     ∙ ap (λ ls. map placed_of old ++ placed s ls p)
     (ap (λ b. block_lines (block_of b) ++ dat_lines (map block_of rest)) first ∙ ap (λ bs'. block_lines (block_of (get_or bs 0 b)) ++ dat_lines (map block_of bs')) behind
     ∙ sym (ap (λ bs. dat_lines (map block_of bs)) (first_rest bs b some)))
+
+-- ---- a file without a line of DAT
+
+pub no_line_more : (bs : List Block) (b : Block) (rest : List Block) → 0 < length bs → b ≡ get_or bs 0 b → rest ≡ take (length bs - 1) (drop 1 bs)
+    → block_lines (block_of b) ≡ [] → dat_lines (map block_of rest) ≡ dat_lines (map block_of bs)
+no_line_more bs b rest some first behind own = sym (
+    ap (λ bs. dat_lines (map block_of bs)) (first_rest bs b some) ∙ ap (λ x. block_lines (block_of x) ++ dat_lines (map block_of (take (length bs - 1) (drop 1 bs)))) (sym first)
+    ∙ ap (λ bs'. block_lines (block_of b) ++ dat_lines (map block_of bs')) (sym behind) ∙ ap (λ ls. ls ++ dat_lines (map block_of rest)) own)
+
+pub no_places : (base : Setting) (start : ℕ) (file : Source) → dat_lines file ≡ [] → placed_lines base start file ≡ []
+no_places base start file none = ap (λ ls. placed (without_labels base ls) ls (first_spot start)) none
+
+pub no_bytes : (base : Setting) (start : ℕ) (file : Source) → dat_lines file ≡ [] → dat_bytes base start file ≡ []
+no_bytes base start file none =
+    ap (λ ls. let s = without_labels base ls in regions_bytes s (with_labels base (placed s ls (first_spot start))) (regions (placed s ls (first_spot start)))) none
+
+pub no_fault : (base : Setting) (start : ℕ) (file : Source) (f : Fault) → dat_lines file ≡ [] → ¬ IsDatFault base start file f
+no_fault base start file f none h =
+    subst (λ ls. let s = without_labels base ls in FaultInRegions s (with_labels base (placed s ls (first_spot start))) (regions (placed s ls (first_spot start))) f) none h
 
 -- ---- a local label means nothing to the lines of other regions
 

@@ -11,7 +11,7 @@ ghost use Rattle.p8_dat.specs.Lines.{begin_of};
 ghost use Rattle.p8_dat.specs.Blocks.{placed_lines, dat_bytes, IsDatFault};
 ghost use Rattle.p8_dat.specs.Placing.{placed_of};
 
-use crate::files::{Assembled, assemble_file};
+use crate::files::{Assembled, assemble_file, have_no_line};
 use crate::output::Output;
 use crate::placing::Placed;
 use crate::spots::Spot;
@@ -170,6 +170,19 @@ fn assemble_with(
     }
 }
 
+// The DAT of a file without a line of it.
+fn nothing(alloc: Global) -> Dat
+    ensures bytes { result.bytes ≡ [] }
+    ensures labels { result.labels ≡ [] }
+    ensures lines { result.lines ≡ [] }
+{
+    Dat {
+        bytes: Text::from_vec(Vec::new(alloc)),
+        labels: List::new(alloc),
+        lines: List::new(alloc),
+    }
+}
+
 /// Assembles the DAT blocks of a file, which stand together at the offset `start` of its object: their bytes and labels, and where
 /// their lines begin.
 ///
@@ -185,6 +198,9 @@ pub fn assemble(alloc: Global, named: &Named, start: u32) -> Result<Dat, Fail<Da
     ensures refused { IfErr result (IfRefused (IsFirstFault
         (IsDatFault (file_setting named.now.kinds named.now.children.now) start (source_of named.now.file.now)))) }
 {
+    if have_no_line(named.file.blocks.as_slice()) {
+        return Ok(nothing(alloc));
+    }
     let counts = consts_of(alloc, &named.kinds, named.children)?;
     let values = consts_of(alloc, &named.kinds, named.children)?;
     assemble_with(alloc, named.file, &named.kinds, start, counts, values)

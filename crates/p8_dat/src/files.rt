@@ -1,5 +1,5 @@
 // All DAT blocks of a file.
-ghost use Rattle.std.specs.Prelude.{◌≡◌, ◌++◌, MatchOption, OnOk, IfOk, None, map, fold};
+ghost use Rattle.std.specs.Prelude.{◌≡◌, [], ◌++◌, true, MatchOption, OnOk, IfOk, None, map, fold};
 ghost use Rattle.p8_tree.specs.Views.{block_of, source_of};
 ghost use Rattle.p8_tree.specs.declared.faults.Fault.{Fault};
 ghost use Rattle.p8_tree.specs.Faults.{IsFirstFault};
@@ -25,6 +25,29 @@ use std::alloc::{AllocError, Global};
 pub(crate) struct Assembled<'a> {
     pub(crate) places: Vec<Placed<'a>>,
     pub(crate) out: Output,
+}
+
+// Whether a block has no line of DAT.
+fn has_no_line(block: &Block) -> bool
+    ensures { result ≡ true → block_lines (block_of block.now) ≡ [] }
+{
+    match block {
+        Block::Dat(lines) => lines.is_empty(),
+        Block::Con(_) | Block::Var(_) | Block::Obj(_) | Block::Method(_) => true,
+    }
+}
+
+// Whether no block has a line of DAT.
+pub(crate) fn have_no_line(mut blocks: &[Block]) -> bool
+    ensures { result ≡ true → dat_lines (map block_of blocks.entry.now) ≡ [] }
+{
+    while let [block, rest @ ..] = blocks {
+        if !has_no_line(block) {
+            return false;
+        }
+        blocks = rest;
+    }
+    true
 }
 
 // Enters the labels of a block where they have no value.
