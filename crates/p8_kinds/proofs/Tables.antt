@@ -1,5 +1,5 @@
 -- Tables of what names mean, one entry more.
-use Rattle.std.proofs.Common.{◌≡◌, ℕ, true, false, List, [], ◌∷◌, ◌++◌, length, take, get_or, ◌+◌, ◌<◌, Option, Some, None, inl, inr, refl, sym, ap, ◌∙◌}
+use Rattle.std.proofs.Common.{◌≡◌, ℕ, Bool, true, false, List, [], ◌∷◌, ◌++◌, length, take, get_or, ◌+◌, ◌<◌, Option, Some, None, inl, inr, refl, sym, ap, ◌∙◌}
 use Rattle.std.specs.Prelude.{if◌then◌else◌, is_some, option_map, Vec, cond}
 use Rattle.std.specs.Option.{option_or}
 use Rattle.std.specs.Str.{bytes_eq}
@@ -179,7 +179,16 @@ partly_last names children s h = record { named = λ n. h.named n refl; constant
 apart_at : (n : List ℕ) (k : Key) (v : NameKind) (rest : List (Key × NameKind)) → bytes_eq n k.items ≡ false → at n ((k, v) ∷ rest) ≡ at n rest
 apart_at n k v rest e = ap (λ b. cond b (Some v) (at n rest)) (is_eq-slice_cmp n k.items ∙ e)
 
-module _ (names : Names) (children : Children) (k : Key) (v : NameKind) (rest : List (Key × NameKind)) (s t : Setting) (found : at_bytes k.items names ≡ Some v) (h : IsPartly names children ((k, v) ∷ rest) s) (e : HasMeaning s t k.items v children) where
+in_front : (b : Bool) (w : NameKind) (x y : Option NameKind) → cond b (Some w) x ≡ None → (x ≡ None → y ≡ None) → cond b (Some w) y ≡ None
+in_front true w x y h f = absurd cc
+in_front false w x y h f = f h
+
+-- one entry more at the end, of another name
+apart_last : (n : List ℕ) (k : Key) (v : NameKind) (rest : List (Key × NameKind)) → bytes_eq n k.items ≡ false → at n rest ≡ None → at n (rest ++ (k, v) ∷ []) ≡ None
+apart_last n k v [] e none = apart_at n k v [] e ∙ none
+apart_last n k v ((j, w) ∷ rest) e none = in_front (is_at (λ k. slice_cmp nat_cmp n k.items) j) w (at n rest) (at n (rest ++ (k, v) ∷ [])) none (apart_last n k v rest e)
+
+module _ (names : Names) (children : Children) (k : Key) (v : NameKind) (rest : List (Key × NameKind)) (s t : Setting) (found : at_bytes k.items names ≡ Some v) (h : IsPartly names children (rest ++ (k, v) ∷ []) s) (e : HasMeaning s t k.items v children) where
   here_right : (n : List ℕ) → t.constant k.items n ≡ constant_behind children (at_bytes k.items names) n
   here_right n =
       let is : constant_behind children (at_bytes k.items names) n ≡ constant_behind children (Some v) n = ap (λ a. constant_behind children a n) found in
@@ -195,14 +204,14 @@ module _ (names : Names) (children : Children) (k : Key) (v : NameKind) (rest : 
           | inl same ↦
               let is : n ≡ k.items = (bytes_eq-Decides n k.items).0 same in
               ap t.name is ∙ e.named ∙ sym (ap (option_map meaning_of_kind) (ap (λ n. at_bytes n names) is ∙ found))
-          | inr apart ↦ e.others n (differs n apart) ∙ h.named n (apart_at n k v rest apart ∙ none)
+          | inr apart ↦ e.others n (differs n apart) ∙ h.named n (apart_last n k v rest apart none)
         ];
     constants = λ o n none.
         elim (cases_Bool (bytes_eq o k.items)) [
           | inl same ↦
               let is : o ≡ k.items = (bytes_eq-Decides o k.items).0 same in
               ap (λ o. t.constant o n) is ∙ here_right n ∙ sym (ap (λ o. constant_behind children (at_bytes o names) n) is)
-          | inr apart ↦ e.other_objects o n (differs o apart) ∙ h.constants o n (apart_at o k v rest apart ∙ none)
+          | inr apart ↦ e.other_objects o n (differs o apart) ∙ h.constants o n (apart_last o k v rest apart none)
         ];
     right = λ o n m r.
         elim (cases_Bool (bytes_eq o k.items)) [

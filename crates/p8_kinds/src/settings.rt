@@ -27,7 +27,8 @@ pub fn consts_of(alloc: Global, kinds: &Kinds, children: &Children) -> Result<Co
     }
 }
 
-// Enters what each name means, where there is no entry yet.
+// Enters what each name means, where there is no entry yet. From the last name on: each then comes before all that are there, and
+// the search for its place looks at one name a level.
 fn enter_meanings(
     alloc: Global,
     consts: &mut Consts,
@@ -39,7 +40,8 @@ fn enter_meanings(
     ensures entered { OnOk result (IsSettingOf names.now children.now (setting_of consts.new)) }
     ensures here { OnOk result ((setting_of consts.new).here ≡ (setting_of consts.old).here) }
 {
-    for (name, kind) in names.iter() {
+    let mut left = names.iter();
+    'entries: while let Some((name, kind)) = left.next_back() {
         let name = Text::copy_of(alloc, name.as_slice())?;
         enter_meaning(consts, &name, *kind, children)?;
     }

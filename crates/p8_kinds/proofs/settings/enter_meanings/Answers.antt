@@ -1,27 +1,42 @@
-use Rattle.std.proofs.Common.{◌≡◌, Some, ◌∷◌, ◌∙◌, subst}
-use Rattle.std.specs.Map.Iter.{deref_pair}
-use Rattle.std.proofs.lemmas.Map.Iter.{rest_more}
-use Rattle.std.proofs.lemmas.Map.Views.{All-turn}
+use Rattle.std.proofs.Common.{◌≡◌, Some, [], ◌∷◌, ◌++◌, ◌∙◌, length, refl, sym, ap, subst, arith}
+use Rattle.std.specs.Prelude.{All}
+use Rattle.std.proofs.lemmas.List.{length_push}
+use Rattle.std.proofs.lemmas.List.Elements.{All-pop}
 use Rattle.p8_fold.specs.ConstantEntries.{setting_of}
 use Rattle.p8_kinds.specs.Entries.{at_bytes}
 use Rattle.p8_kinds.specs.FileSettings.{HasMeaning}
-use Rattle.p8_kinds.proofs.Tables.{IsPartly, partly_next}
+use Rattle.p8_kinds.proofs.Tables.{IsPartly, partly_first, partly_last, partly_next}
 use Rattle.p8_kinds.proofs.settings.enter_meanings.Goals as goal
 
-pub loop-name-preserved : goal.loop-name-preserved
-loop-name-preserved c =
+pub entries-init : goal.entries-init
+entries-init c =
+    let names = c.args.names.now in
+    let children = c.args.children.now in
+    let s = setting_of c.args.consts.now in
+    record {
+      partly = subst (λ es. IsPartly names children es s) (sym c.iter-left.ensures.rest) (partly_first names children s c.requires.no_name c.requires.no_constant);
+      here = refl;
+      found = subst (All (λ e. at_bytes e.0.items names ≡ Some e.1)) (sym c.iter-left.ensures.rest) c.iter-left.ensures.found;
+    }
+
+pub entries-smaller : goal.entries-smaller
+entries-smaller c = omega (arith, ap length c.in-Some.ensures.steps, length_push c.next_back.new.self (c.in-Some.name.now, c.in-Some.kind.now))
+
+pub entries-preserved : goal.entries-preserved
+entries-preserved c =
     let names = c.args.names.now in
     let children = c.args.children.now in
     let k = c.in-Some.name.now in
     let v = c.in-Some.kind.now in
-    let s = setting_of c.loop-name.consts in
+    let s = setting_of c.entries.consts in
     let t = setting_of c.enter_meaning.new.consts in
-    let left = c.next.new.self in
-    let more : c.loop-name.name-iterator ≡ (k, v) ∷ left = rest_more deref_pair c.loop-name.name-iterator left c.next.result _ c.in-Some.is c.next.ensures.steps in
-    let found : at_bytes k.items names ≡ Some v =
-    All-turn deref_pair (λ e. at_bytes e.0.items names ≡ Some e.1) _ _ _ _ _ _ _ c.iter-name-items.ensures.found (c.into_iter-name-iterator.ensures.into_iter_gives ∙ c.iter-name-items.ensures.rest) c.loop-name.yielded_by c.in-Some.is c.next.ensures.steps in
+    let left = c.next_back.new.self in
+    let more : c.entries.left ≡ left ++ (k, v) ∷ [] = c.in-Some.ensures.steps in
+    let all = All-pop (λ e. at_bytes e.0.items names ≡ Some e.1) c.entries.left left (Some (k, v)) more c.entries.invariant.found in
     let bytes : c.in_ok-name.name ≡ k.items = c.in_ok-name.ensures ∙ c.as_slice.ensures.value in
-    let entered : HasMeaning s t k.items v children = subst (λ n. HasMeaning s t n v children) bytes c.in_ok-enter_meaning.ensures in (
-      partly_next names children k v left s t found (subst (λ es. IsPartly names children es s) more c.loop-name.invariant.0) entered,
-      entered.here ∙ c.loop-name.invariant.1,
-    )
+    let entered : HasMeaning s t k.items v children = subst (λ n. HasMeaning s t n v children) bytes c.in_ok-enter_meaning.ensures in
+    record {
+      partly = partly_next names children k v left s t all.1 (subst (λ es. IsPartly names children es s) more c.entries.invariant.partly) entered;
+      here = entered.here ∙ c.entries.invariant.here;
+      found = all.0;
+    }
