@@ -1,5 +1,5 @@
 // The kinds of a file's names.
-ghost use Rattle.std.specs.Prelude.{◌≡◌, ℕ, List, Some, None, OnOk, OnErr};
+ghost use Rattle.std.specs.Prelude.{◌≡◌, ℕ, List, Some, None, OnOk, OnErr, IfOk};
 ghost use Rattle.std.specs.Option.{option_copied};
 ghost use Rattle.p8_kinds.specs.Kinds.{own, kind_of};
 ghost use Rattle.p8_kinds.specs.Entries.{at_bytes, names_at, at_number};
@@ -43,8 +43,24 @@ impl Kinds {
         ensures others { (m : ℕ) → (n : List ℕ) → ¬ ((m ≡ method) × (n ≡ name.now)) → own self.new m n ≡ own self.old m n }
         ensures unchanged { OnErr result ((m : ℕ) → (n : List ℕ) → own self.new m n ≡ own self.old m n) }
     {
-        enter_in(self.alloc, &mut self.scopes, method, name, kind)?;
+        self.replace(method, name, kind)?;
         Ok(())
+    }
+
+    /// Says what a name is, as [`set`](Kinds::set) does, and gives what it was.
+    pub fn replace(
+        &mut self,
+        method: u32,
+        name: &Text,
+        kind: NameKind,
+    ) -> Result<Option<NameKind>, NoMemory>
+        ensures old { IfOk result (λ old. old ≡ own self.old method name.now) }
+        ensures entered { OnOk result (own self.new method name.now ≡ Some kind) }
+        ensures others { (m : ℕ) → (n : List ℕ) → ¬ ((m ≡ method) × (n ≡ name.now)) → own self.new m n ≡ own self.old m n }
+        ensures unchanged { OnErr result ((m : ℕ) → (n : List ℕ) → own self.new m n ≡ own self.old m n) }
+    {
+        let old = enter_in(self.alloc, &mut self.scopes, method, name, kind)?;
+        Ok(old)
     }
 
     /// What a name of this method alone is, or at 0 a name of the whole file.
@@ -75,25 +91,32 @@ impl Kinds {
     }
 }
 
-// Puts a kind at a name.
-fn enter(alloc: Global, names: &mut Names, name: &Text, kind: NameKind) -> Result<(), AllocError>
+// Puts a kind at a name, and gives what stood there.
+fn enter(
+    alloc: Global,
+    names: &mut Names,
+    name: &Text,
+    kind: NameKind,
+) -> Result<Option<NameKind>, AllocError>
+    ensures old { IfOk result (λ old. old ≡ at_bytes name.now names.old) }
     ensures entered { OnOk result (at_bytes name.now names.new ≡ Some kind) }
     ensures others { (n : List ℕ) → ¬ (n ≡ name.now) → at_bytes n names.new ≡ at_bytes n names.old }
     ensures unchanged { OnErr result ((n : List ℕ) → at_bytes n names.new ≡ at_bytes n names.old) }
 {
     let key = name.as_slice().to_vec(alloc)?;
-    names.insert(key, kind)?;
-    Ok(())
+    let old = names.insert(key, kind)?;
+    Ok(old)
 }
 
-// Puts a kind at a name of a scope.
+// Puts a kind at a name of a scope, and gives what stood there.
 fn enter_in(
     alloc: Global,
     scopes: &mut Scopes,
     method: u32,
     name: &Text,
     kind: NameKind,
-) -> Result<(), AllocError>
+) -> Result<Option<NameKind>, AllocError>
+    ensures old { IfOk result (λ old. old ≡ at_number method name.now scopes.old) }
     ensures entered { OnOk result (at_number method name.now scopes.new ≡ Some kind) }
     ensures others { (m : ℕ) → (n : List ℕ) → ¬ ((m ≡ method) × (n ≡ name.now)) → at_number m n scopes.new ≡ at_number m n scopes.old }
     ensures unchanged { OnErr result ((m : ℕ) → (n : List ℕ) → at_number m n scopes.new ≡ at_number m n scopes.old) }
@@ -104,15 +127,16 @@ fn enter_in(
     }
 }
 
-// Puts a kind at a name of a scope that has none yet.
+// Puts a kind at a name of a scope that has none yet: nothing stood there.
 fn enter_first(
     alloc: Global,
     scopes: &mut Scopes,
     method: u32,
     name: &Text,
     kind: NameKind,
-) -> Result<(), AllocError>
+) -> Result<Option<NameKind>, AllocError>
     requires { names_at method scopes.old ≡ None }
+    ensures old { IfOk result (λ old. old ≡ at_number method name.now scopes.old) }
     ensures entered { OnOk result (at_number method name.now scopes.new ≡ Some kind) }
     ensures others { (m : ℕ) → (n : List ℕ) → ¬ ((m ≡ method) × (n ≡ name.now)) → at_number m n scopes.new ≡ at_number m n scopes.old }
     ensures unchanged { OnErr result ((m : ℕ) → (n : List ℕ) → at_number m n scopes.new ≡ at_number m n scopes.old) }
@@ -120,5 +144,5 @@ fn enter_first(
     let mut names = BTreeMap::new(alloc);
     enter(alloc, &mut names, name, kind)?;
     scopes.insert(method, names)?;
-    Ok(())
+    Ok(None)
 }

@@ -4,6 +4,9 @@ use Rattle.p8_kinds.specs.Entries.{names_at, in_names}
 use Rattle.p8_kinds.proofs.Scopes.{at_other_numbers, at_other_names}
 use Rattle.p8_kinds.proofs.kinds.enter_first.Goals as goal
 
+pub returns-clause-old : goal.returns-clause-old
+returns-clause-old c = sym (ap (in_names c.args.name.now) c.requires)
+
 pub returns-clause-others : goal.returns-clause-others
 returns-clause-others c =
     let here : names_at c.args.method c.insert.new.self ≡ Some c.enter.new.names = search rules in

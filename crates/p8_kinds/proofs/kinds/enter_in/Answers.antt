@@ -1,10 +1,16 @@
-use Rattle.std.proofs.Common.{◌≡◌, ◌∙◌, ap, sym, rules, Some}
+use Rattle.std.proofs.Common.{◌≡◌, ◌∙◌, ap, sym, subst, rules, Some}
+use Rattle.std.specs.Prelude.{IfOk}
 use Rattle.std.specs.BTreeMap.{UpdatesBy}
 use Rattle.std.specs.Ordering.{nat_cmp}
 use Rattle.p8_fold.proofs.Bytes.{OnErr-to}
 use Rattle.p8_kinds.specs.Entries.{names_at, in_names}
 use Rattle.p8_kinds.proofs.Scopes.{at_other_numbers, at_other_names, at_all_names}
 use Rattle.p8_kinds.proofs.kinds.enter_in.Goals as goal
+
+pub returns-in-Some-clause-old : goal.returns-in-Some-clause-old
+returns-in-Some-clause-old c =
+    let found : names_at c.args.method c.args.scopes.now ≡ Some c.in-Some.names.now = search rules in
+    subst (λ o. IfOk c.enter.result (λ old. old ≡ in_names c.args.name.now o)) (sym found) c.enter.ensures.old
 
 pub returns-in-Some-clause-others : goal.returns-in-Some-clause-others
 returns-in-Some-clause-others c =
