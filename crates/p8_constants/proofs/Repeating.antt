@@ -18,13 +18,6 @@ in_either true b xs ys n h k = (λ t. Contains-append_left xs ys n (h.0 refl), �
 in_either false b xs ys n h k =
     (λ t. Contains-append_right xs ys n (k.0 t), λ c. elim (Contains-append_cases xs ys n c) [ inl x ↦ (let so = h.1 x in absurd cc) | inr y ↦ k.1 y ])
 
--- a name that isn't in the first
-pub in_second : (a b : Bool) (xs ys : List (List ℕ)) (n : List ℕ) → a ≡ false → IsTrue a ↔ Contains xs n → IsTrue b ↔ Contains ys n → IsTrue b ↔ Contains (xs ++ ys) n
-in_second a b xs ys n e h k = in_either false b xs ys n (subst (λ c. IsTrue c ↔ Contains xs n) e h) k
-
-pub in_first : (a : Bool) (xs ys : List (List ℕ)) (n : List ℕ) → a ≡ true → IsTrue a ↔ Contains xs n → IsTrue a ↔ Contains (xs ++ ys) n
-in_first a xs ys n e h = (λ t. Contains-append_left xs ys n (h.0 e), λ c. e)
-
 -- the set has the names before the rest
 pub record Taken (behind : List (List ℕ)) (all rest : List Defined) (own : NameSet) : Type 0 where
   pub names : List (List ℕ)

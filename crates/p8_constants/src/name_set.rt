@@ -32,12 +32,21 @@ impl NameSet {
         self.names.contains_key(name)
     }
 
+    /// Puts a name into the set, where it may be already, and tells whether it was.
+    pub fn has_then_put(&mut self, name: &[u8]) -> Result<bool, AllocError>
+        ensures told { (names : List (List ℕ)) → Holds self.old names → IfOk result (λ had. IsTrue had ↔ Contains names name.now) }
+        ensures taken { OnOk result ((names : List (List ℕ)) → Holds self.old names → Holds self.new (names ++ name.now ∷ [])) }
+    {
+        let key = name.to_vec(self.alloc)?;
+        let old = self.names.insert(key, ())?;
+        Ok(old.is_some())
+    }
+
     /// Puts a name into the set, where it may be already.
     pub fn put(&mut self, name: &[u8]) -> Result<(), AllocError>
         ensures { OnOk result ((names : List (List ℕ)) → Holds self.old names → Holds self.new (names ++ name.now ∷ [])) }
     {
-        let key = name.to_vec(self.alloc)?;
-        self.names.insert(key, ())?;
+        self.has_then_put(name)?;
         Ok(())
     }
 }

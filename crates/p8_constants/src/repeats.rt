@@ -1,5 +1,5 @@
 // Names that are defined twice.
-ghost use Rattle.std.specs.Prelude.{◌≡◌, ℕ, List, ◌++◌, ◌↔◌, IsTrue, Contains, IfOk, OnOk, map};
+ghost use Rattle.std.specs.Prelude.{◌≡◌, ◌||◌, ℕ, List, [], ◌∷◌, ◌++◌, ◌↔◌, IsTrue, Contains, IfOk, OnOk, map};
 ghost use Rattle.p8_tree.specs.Views.{method_of};
 ghost use Rattle.p8_constants.specs.Names.{spelled, file_names, predefined as table, predefined_names};
 ghost use Rattle.p8_constants.specs.Repeats.{Repeats, RepeatIn, HasOwnRepeat, NameRepeatIn};
@@ -15,21 +15,37 @@ use crate::names::{Defined, names_of, own_names};
 use p8_tree::{Fault, Method, Refusal, first_of_two};
 use std::alloc::{AllocError, Global};
 
-// Whether a name is in one of two sets.
-fn is_in(shared: &NameSet, own: &NameSet, name: &[u8]) -> bool
-    ensures { (before : List (List ℕ)) → Holds shared.now before → (behind : List (List ℕ)) → Holds own.now behind →
-        IsTrue result ↔ Contains (before ++ behind) name.now }
+// One of two.
+fn either(first: bool, second: bool) -> bool
+    ensures { result ≡ (first || second) }
 {
-    shared.has(name) || own.has(name)
+    first || second
 }
 
-// 14 where a name is in one of two sets.
-fn repeated(shared: &NameSet, own: &NameSet, defined: Defined<'_>) -> Option<Fault>
-    ensures { (before : List (List ℕ)) → Holds shared.now before → (behind : List (List ℕ)) → Holds own.now behind →
-        IsFirstOf result (Repeats (before ++ behind) (defined_of defined.entry)) }
+// Whether a name is in one of two sets, of which the second one takes it.
+fn is_in_then_put(shared: &NameSet, own: &mut NameSet, name: &[u8]) -> Result<bool, AllocError>
+    ensures told { (before : List (List ℕ)) → Holds shared.now before → (behind : List (List ℕ)) → Holds own.old behind →
+        IfOk result (λ is_in. IsTrue is_in ↔ Contains (before ++ behind) name.now) }
+    ensures taken { OnOk result ((names : List (List ℕ)) → Holds own.old names → Holds own.new (names ++ name.now ∷ [])) }
+{
+    let in_shared = shared.has(name);
+    let in_own = own.has_then_put(name)?;
+    Ok(either(in_shared, in_own))
+}
+
+// 14 where a name is in one of two sets, of which the second one takes it.
+fn repeated(
+    shared: &NameSet,
+    own: &mut NameSet,
+    defined: Defined<'_>,
+) -> Result<Option<Fault>, AllocError>
+    ensures told { (before : List (List ℕ)) → Holds shared.now before → (behind : List (List ℕ)) → Holds own.old behind →
+        IfOk result (λ told. IsFirstOf told (Repeats (before ++ behind) (defined_of defined.entry))) }
+    ensures taken { OnOk result ((names : List (List ℕ)) → Holds own.old names → Holds own.new (names ++ defined.entry.name.now ∷ [])) }
 {
     let fault = Refusal::Duplicate.at(defined.place);
-    where_so(is_in(shared, own, defined.name.as_slice()), fault)
+    let is_in = is_in_then_put(shared, own, defined.name.as_slice())?;
+    Ok(where_so(is_in, fault))
 }
 
 /// The first of these names that is in a shared set, or among those before it: in a set of their own, which takes them.
@@ -44,8 +60,7 @@ pub(crate) fn first_repeated(
 {
     let mut first = None;
     for defined in names {
-        first = first_of_two(first, repeated(shared, own, *defined));
-        own.put(defined.name.as_slice())?;
+        first = first_of_two(first, repeated(shared, own, *defined)?);
     }
     Ok(first)
 }

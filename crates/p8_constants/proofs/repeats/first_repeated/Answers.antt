@@ -8,12 +8,11 @@ loop-defined-init c = (λ before s behind h. goes_begin before behind _ _ h, λ 
 
 pub loop-defined-preserved : goal.loop-defined-preserved
 loop-defined-preserved c =
-    let put : (names : List (List ℕ)) → Holds c.loop-defined.own names → Holds c.put.new.self (names ++ c.defined-item.result.name.now ∷ []) =
-    λ names k. subst (λ n. Holds c.put.new.self (names ++ n ∷ [])) c.as_slice.ensures (c.in_ok-put.ensures names k) in (
-      λ before s behind h. subst (λ told. Goes before behind (all_defined_of c.args.names.now) told (all_defined_of (drop (c.loop-defined.defined-index + 1) c.args.names.now)) c.put.new.self) (sym c.first_of_two-first.ensures)
-          (goes_more before behind (all_defined_of c.args.names.now) c.args.names.now c.loop-defined.defined-index c.defined-item.result c.loop-defined.own c.put.new.self c.loop-defined.first c.repeated.result
-          (omega arith) c.defined-item.is put (λ names k. c.repeated.ensures before s names k) (c.loop-defined.invariant.0 before s behind h)),
-      λ behind h. taken_more behind (all_defined_of c.args.names.now) c.args.names.now c.loop-defined.defined-index c.defined-item.result c.loop-defined.own c.put.new.self
+    let put : (names : List (List ℕ)) → Holds c.loop-defined.own names → Holds c.repeated.new.own (names ++ c.defined-item.result.name.now ∷ []) = c.in_ok-repeated.ensures.taken in (
+      λ before s behind h. subst (λ told. Goes before behind (all_defined_of c.args.names.now) told (all_defined_of (drop (c.loop-defined.defined-index + 1) c.args.names.now)) c.repeated.new.own) (sym c.first_of_two-first.ensures)
+          (goes_more before behind (all_defined_of c.args.names.now) c.args.names.now c.loop-defined.defined-index c.defined-item.result c.loop-defined.own c.repeated.new.own c.loop-defined.first c.in_ok-repeated.field-0
+          (omega arith) c.defined-item.is put (λ names k. c.in_ok-repeated.ensures.told before s names k) (c.loop-defined.invariant.0 before s behind h)),
+      λ behind h. taken_more behind (all_defined_of c.args.names.now) c.args.names.now c.loop-defined.defined-index c.defined-item.result c.loop-defined.own c.repeated.new.own
           (omega arith) c.defined-item.is put (c.loop-defined.invariant.1 behind h),
     )
 
