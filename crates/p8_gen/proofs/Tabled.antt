@@ -1,8 +1,11 @@
 -- The tables of a file: labels one after the other, and what the names of a method mean by the tables.
-use Rattle.std.proofs.Common.{◌≡◌, ℕ, ◌+◌, ◌<◌, List, [], ◌∷◌, ◌++◌, length, take, get_or, Option, Some, None, refl, sym, ap, ◌∙◌, subst}
-use Rattle.std.specs.Prelude.{IfSome, map}
+use Rattle.std.proofs.Common.{◌≡◌, inl, inr, ℕ, ◌+◌, ◌-◌, ◌<◌, ◌≤◌, List, [], ◌∷◌, length, drop, get_or, Option, Some, None, refl, sym, ap, ◌∙◌, subst, arith}
+use Rattle.std.specs.Prelude.{IfSome, map, if◌then◌else◌}
 use Rattle.std.specs.Option.{option_or}
-use Rattle.std.proofs.lemmas.List.{take_more}
+use Rattle.std.specs.Str.{bytes_eq}
+use Rattle.std.proofs.lemmas.Bool.{cases_Bool, false≢true}
+use Rattle.std.proofs.lemmas.List.{drop_more, drop_all}
+use Rattle.std.proofs.lemmas.Slice.Eq.{bytes_eq-Decides}
 use Rattle.p8_words.specs.Operators.{or_zero}
 use Rattle.p8_fold.specs.ConstantEntries.{setting_of}
 use Rattle.p8_tree.specs.declared.places.Place.{Place}
@@ -23,21 +26,23 @@ use Rattle.p8_gen.specs.Scopes.{names_from}
 use Rattle.p8_gen.specs.Uses.{use_of}
 use Rattle.p8_gen.specs.Writing.{Stands}
 
-none_further : (o : Option ℕ) → o ≡ option_or o None
-none_further None = refl
-none_further (Some k) = refl
+-- of what stands at names, where a label was entered
+pub label_entered : (x : Label) (old new : List ℕ → Option ℕ) → new x.name ≡ Some x.offset → ((n : List ℕ) → ¬ (n ≡ x.name) → new n ≡ old n) → (n : List ℕ) → new n ≡ option_or (named_offset x n) (old n)
+label_entered x old new is others n =
+    elim (cases_Bool (bytes_eq n x.name)) [
+      | inl same ↦ ap new ((bytes_eq-Decides n x.name).0 same) ∙ is ∙ sym (ap (λ b. option_or (if b then Some x.offset else None) (old n)) same)
+      | inr apart ↦ others n (λ e. false≢true (sym apart ∙ (bytes_eq-Decides n x.name).1 e)) ∙ sym (ap (λ b. option_or (if b then Some x.offset else None) (old n)) apart)
+    ]
 
-or_assoc : (a b c : Option ℕ) → option_or a (option_or b c) ≡ option_or (option_or a b) c
-or_assoc None b c = refl
-or_assoc (Some k) b c = refl
+pub no_labels : (xs : List Label) (n : List ℕ) → first_offset (drop (length xs) xs) n ≡ None
+no_labels xs n = ap (λ ys. first_offset ys n) (drop_all (length xs) xs (omega arith))
 
-labels_push : (xs : List Label) (x : Label) (n : List ℕ) → first_offset (xs ++ x ∷ []) n ≡ option_or (first_offset xs n) (named_offset x n)
-labels_push [] x n = sym (none_further (named_offset x n))
-labels_push (y ∷ xs) x n = ap (option_or (named_offset y n)) (labels_push xs x n) ∙ or_assoc (named_offset y n) (first_offset xs n) (named_offset x n)
-
--- the labels up to a place, and the one there
-pub labels_next : (xs : List Label) (i : ℕ) (d : Label) (n : List ℕ) → i < length xs → option_or (first_offset (take i xs) n) (named_offset (get_or xs i d) n) ≡ first_offset (take (i + 1) xs) n
-labels_next xs i d n lt = sym (ap (λ ys. first_offset ys n) (take_more xs i d lt) ∙ labels_push (take i xs) (get_or xs i d) n)
+-- the labels from a place on, and the one before it
+pub labels_more : (xs : List Label) (k : ℕ) (x : Label) (n : List ℕ) → 0 < k → k ≤ length xs → x ≡ get_or xs (k - 1) x → option_or (named_offset x n) (first_offset (drop k xs) n) ≡ first_offset (drop (k - 1) xs) n
+labels_more xs k x n p l e =
+    let last : drop (k - 1) xs ≡ x ∷ drop k xs =
+    drop_more xs (k - 1) x (omega arith) ∙ ap (λ y. y ∷ drop ((k - 1) + 1) xs) (sym e) ∙ ap (λ (j : ℕ). x ∷ drop j xs) (let same : (k - 1) + 1 ≡ k = omega arith in same) in
+    sym (ap (λ ys. first_offset ys n) last)
 
 pub names_same : (found : Kinds) (method : ℕ) (t : Tables) (statement : Place) (children : Children) (labels : List Label) →
     ((item : ℕ) (name : List ℕ) → own t.publics item name ≡ public_of children item name) →

@@ -2,8 +2,7 @@
 ghost use Rattle.std.specs.Prelude.{◌≡◌, ℕ, List, Some, OnOk, OnErr, IfOk};
 ghost use Rattle.p8_fold.specs.ConstantEntries.{at_bytes};
 ghost use Rattle.p8_words.specs.Operators.{or_zero};
-ghost use Rattle.std.specs.Option.{option_or};
-ghost use Rattle.p8_gen.specs.Files.{named_offset, first_offset};
+ghost use Rattle.p8_gen.specs.Files.{first_offset};
 ghost use Rattle.p8_gen.specs.Labels.{offset_in};
 
 use p8_kinds::Label;
@@ -20,13 +19,13 @@ pub struct Labels {
 }
 
 impl Labels {
-    /// The labels of a list. Of two with one name the first counts.
+    /// The labels of a list. Of two with one name the first counts: they are entered from the last one on.
     pub fn of(alloc: Global, labels: &[Label]) -> Result<Labels, AllocError>
         ensures { IfOk result (λ found. (name : List ℕ) → offset_in found name ≡ first_offset labels.now name) }
     {
         let mut offsets = BTreeMap::new(alloc);
-        for label in labels {
-            enter(alloc, &mut offsets, label)?;
+        for at in (0..labels.len()).rev() {
+            enter(alloc, &mut offsets, &labels[at])?;
         }
         Ok(Labels { offsets })
     }
@@ -39,18 +38,8 @@ impl Labels {
     }
 }
 
-// Enters a label, where its name isn't there yet.
+// Enters a label, in place of what stood at its name.
 fn enter(alloc: Global, offsets: &mut Offsets, label: &Label) -> Result<(), AllocError>
-    ensures { OnOk result ((n : List ℕ) → at_bytes n offsets.new ≡ option_or (at_bytes n offsets.old) (named_offset label.now n)) }
-{
-    match offsets.get(label.name.as_slice()) {
-        Some(_) => Ok(()),
-        None => enter_first(alloc, offsets, label),
-    }
-}
-
-// Enters a label whose name isn't there yet.
-fn enter_first(alloc: Global, offsets: &mut Offsets, label: &Label) -> Result<(), AllocError>
     ensures entered { OnOk result (at_bytes label.now.name offsets.new ≡ Some label.now.offset) }
     ensures others { OnOk result ((n : List ℕ) → ¬ (n ≡ label.now.name) → at_bytes n offsets.new ≡ at_bytes n offsets.old) }
 {

@@ -1,6 +1,6 @@
 use Rattle.std.proofs.Common.{◌≡◌, ◌∙◌, rules}
 use Rattle.p8_fold.proofs.Bytes.{at_others}
-use Rattle.p8_gen.proofs.labels.enter_first.Goals as goal
+use Rattle.p8_gen.proofs.labels.enter.Goals as goal
 
 pub returns-clause-others : goal.returns-clause-others
 returns-clause-others c =
