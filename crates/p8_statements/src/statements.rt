@@ -1,5 +1,5 @@
 // What a line of a method is.
-ghost use Rattle.std.specs.Prelude.{◌≡◌, ◌<◌, if◌then◌else◌, IfOk, IfSome, OnOk, Some, None, length, option_map, option_and_then};
+ghost use Rattle.std.specs.Prelude.{◌≡◌, [], ◌<◌, if◌then◌else◌, IfOk, IfSome, OnOk, Some, None, length, option_map, option_and_then};
 ghost use Rattle.p8_tree.specs.Expressions.{node, Var, Items, no_items, ◌▸◌};
 ghost use Rattle.p8_tree.specs.Statements.{Forever, Count, From};
 ghost use Rattle.p8_tree.specs.Views.{tree_of, form_of, variable_of, item_of, items_of, course_of};
@@ -267,7 +267,7 @@ impl Row {
     fn tests(&mut self, alloc: Global) -> Result<Option<List<Item>>, NoMemory>
         ensures { IfOk result (λ o. option_map items_of o ≡ tests_after no_items None (rest_of self.old)) }
     {
-        let mut tests = List::new(alloc);
+        let mut tests = no_tests(alloc)?;
         'tests: loop {
             match self.test() {
                 Some(Tested { item, behind }) => {
@@ -402,6 +402,15 @@ impl Row {
             other => without(other, None),
         }
     }
+}
+
+// No tests, with room for one: most items of a CASE have one, for which a first push takes room for four.
+fn no_tests(alloc: Global) -> Result<List<Item>, AllocError>
+    ensures { IfOk result (λ tests. tests ≡ []) }
+{
+    let mut tests = Vec::new(alloc);
+    tests.reserve_exact(1)?;
+    Ok(List::from_vec(tests))
 }
 
 // One more test, the last.
