@@ -366,13 +366,14 @@ impl Coder<'_> {
         ensures { (w : Written) → Stands out.old w →
             OnOk result (Stands out.new (name_alone (names_of self.now) name.now ((names_of self.now).kind name.now) w)) }
     {
-        match self.kind(name) {
+        let kind = self.kind(name);
+        match kind {
             Some(NameKind::Const(value)) => out.number(value),
             Some(NameKind::Method { number, .. }) => {
                 out.mark(true, false)?;
                 out.with_number(0x05, u32::from(number))
             }
-            _ => out.one(self.home(name).plain_op(Operation::Push)),
+            _ => out.one(self.home_of_kind(name, kind).plain_op(Operation::Push)),
         }
     }
 }

@@ -165,7 +165,14 @@ impl Coder<'_> {
     pub fn home(&self, name: &Text) -> Home
         ensures { home_in result ≡ home_of (names_of self.now) name.now }
     {
-        match self.kind(name) {
+        self.home_of_kind(name, self.kind(name))
+    }
+
+    // Where the variable of a name of this kind stands.
+    pub(crate) fn home_of_kind(&self, name: &Text, kind: Option<NameKind>) -> Home
+        ensures { home_in result ≡ home_of_kind (names_of self.now) name.now kind }
+    {
+        match kind {
             Some(NameKind::Global { size, offset }) => home_at(Base::OfVariables, offset, size),
             Some(NameKind::Local { offset }) => home_at(Base::OfFrame, offset, 4),
             Some(NameKind::Label { size }) => {
