@@ -214,14 +214,12 @@ pub(crate) fn verdict(consts: &Consts, expr: &Expr) -> Result<u32, Fault>
             Err(own.with_further(first_in_trees(consts, items)))
         }
         ExprKind::Here => or_fault(consts.place(), not_constant(expr.place)),
-        ExprKind::Var(variable) => or_fault(
-            value_of_variable(consts, variable),
-            fault_at(consts, variable),
-        ),
-        ExprKind::Address(variable) => or_fault(
-            address_of_variable(consts, variable),
-            fault_at(consts, variable),
-        ),
+        ExprKind::Var(variable) => {
+            value_or_fault(consts, variable, value_of_variable(consts, variable))
+        }
+        ExprKind::Address(variable) => {
+            value_or_fault(consts, variable, address_of_variable(consts, variable))
+        }
         ExprKind::Call(call) => Err(first_in_call(consts, call, expr.place)),
         ExprKind::Unary(operator, operand) => {
             verdict_before(*operator, expr.place, verdict(consts, operand))
@@ -251,6 +249,17 @@ pub(crate) fn verdict(consts: &Consts, expr: &Expr) -> Result<u32, Fault>
             let own = not_constant(expr.place).with_further(verdict(consts, value).err());
             Err(own.with_further(first_in_items(consts, items)))
         }
+    }
+}
+
+// The value of a variable, or else its fault, which takes a further look-up of its name.
+#[cycle(folding)]
+fn value_or_fault(consts: &Consts, variable: &Target, value: Option<u32>) -> Result<u32, Fault>
+    ensures { result ≡ or_fault value (fault_at (setting_of consts.now) (variable_of variable.now)) }
+{
+    match value {
+        Some(value) => Ok(value),
+        None => Err(fault_at(consts, variable)),
     }
 }
 
