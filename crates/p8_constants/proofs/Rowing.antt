@@ -1,8 +1,11 @@
 -- Rows with one item, or one block, more at their end.
-use Rattle.std.proofs.Common.{◌≡◌, ℕ, suc, ◌+◌, ◌<◌, Bool, true, false, List, [], ◌∷◌, ◌++◌, length, take, get_or, map, refl, sym, ap, ◌∙◌, append_assoc, arith}
+use Rattle.std.proofs.Common.{◌≡◌, ℕ, suc, ◌+◌, ◌-◌, ◌<◌, ◌≤◌, Bool, true, false, List, [], ◌∷◌, ◌++◌, length, take, drop, get_or, map, refl, sym, ap, ◌∙◌, append_assoc, arith}
 use Rattle.std.specs.Prelude.{◌==◌, if◌then◌else◌, Option, Some, None, option_map}
+use Rattle.std.specs.Str.{bytes_eq}
 use Rattle.std.proofs.lemmas.Bool.Decides.{nat_tests}
-use Rattle.std.proofs.lemmas.List.{length-map, length-take-le, take_more, map_push, get_or-map}
+use Rattle.std.proofs.lemmas.Bool.{false≢true}
+use Rattle.std.proofs.lemmas.List.{length-map, length-take-le, take_more, drop_more, drop_all, map_push, get_or-map}
+use Rattle.std.proofs.lemmas.Slice.Eq.{bytes_eq-Decides}
 use Rattle.p8_tree.specs.declared.sources.ConItem.{ConItem}
 use Rattle.p8_tree.specs.declared.sources.Block.{Block}
 use Rattle.p8_tree.specs.Views.{constant_of, block_of}
@@ -57,31 +60,64 @@ row_read v es k e rows view lt is =
 
 -- ---- names
 
-first_one : (b : Bool) → (if b then Some 0 else option_map suc None) ≡ (if b then Some 0 else None)
-first_one true = refl
-first_one false = refl
+-- one name more, in front of those behind it
 
-first_else : (b : Bool) (a : Option ℕ) (c : Bool) (n : ℕ) → (if b then Some 0 else option_map suc (or_else a (if c then Some n else None))) ≡ or_else (if b then Some 0 else option_map suc a) (if c then Some (suc n) else None)
-first_else true a c n = refl
-first_else false None true n = refl
-first_else false None false n = refl
-first_else false (Some i) c n = refl
+given_or : (g : Option Meaning) (b : Bool) (node : ℕ) (o : Option ℕ) → (b ≡ true → g ≡ None → ⊥) → o ≡ or_else (given_here g b node) o
+given_or None true node o h = absurd (h refl refl)
+given_or None false node o h = refl
+given_or (Some m) b node o h = refl
 
-first_named-push : (rs : List Row) (r : Row) (n : List ℕ) → first_named (rs ++ r ∷ []) n ≡ or_else (first_named rs n) (if is_named n r.item.name then Some (length rs) else None)
-first_named-push [] r n = first_one (is_named n r.item.name)
-first_named-push (s ∷ rs) r n =
-    ap (λ o. if is_named n s.item.name then Some 0 else option_map suc o) (first_named-push rs r n) ∙ first_else (is_named n s.item.name) (first_named rs n) (is_named n r.item.name) (length rs)
+entered_or : (g : Option Meaning) (b : Bool) (node : ℕ) (new old : Option ℕ) → (b ≡ true → (g ≡ None) × (new ≡ Some node)) → (b ≡ false → new ≡ old) → new ≡ or_else (given_here g b node) old
+entered_or None true node new old here others = (here refl).1
+entered_or None false node new old here others = others refl
+entered_or (Some m) true node new old here others = let none = (here refl).0 in absurd cc
+entered_or (Some m) false node new old here others = others refl
 
-constant_else : (f : ℕ → ℕ) (g : Option Meaning) (a : Option ℕ) (b : Bool) (n : ℕ) → option_map f (unless_given g (or_else a (if b then Some n else None))) ≡ or_else (option_map f (unless_given g a)) (given_here g b (f n))
-constant_else f None None true n = refl
-constant_else f None None false n = refl
-constant_else f None (Some i) b n = refl
-constant_else f (Some m) a b n = refl
+-- an item without a name
+pub unnamed_more : (outside : Setting) (n : List ℕ) (name : Option (List ℕ)) (node : ℕ) (o : Option ℕ) → name ≡ None → o ≡ or_else (named_here outside n name node) o
+unnamed_more outside n name node o none = given_or (outside.name n) (is_named n name) node o (λ named free. false≢true (sym (ap (is_named n) none) ∙ named))
 
-pub index_more : (outside : Setting) (rows : List Row) (k : ℕ) (f : ℕ → ℕ) (n : List ℕ) → k < length rows → option_map f (constant_at outside (take (k + 1) rows) n) ≡ or_else (option_map f (constant_at outside (take k rows) n)) (named_here outside n (row_at rows k).item.name (f k))
-index_more outside rows k f n lt =
-    let count : length (take k rows) ≡ k = length-take-le k rows (omega arith) in
-    ap (λ rs. option_map f (constant_at outside rs n)) (take_more rows k no_row lt)
-    ∙ (ap (λ o. option_map f (unless_given (outside.name n) o)) (first_named-push (take k rows) (row_at rows k) n)
-    ∙ (constant_else f (outside.name n) (first_named (take k rows) n) (is_named n (row_at rows k).item.name) (length (take k rows))
-    ∙ ap (λ m. or_else (option_map f (constant_at outside (take k rows) n)) (named_here outside n (row_at rows k).item.name (f m))) count))
+-- a name that means something outside
+pub outside_more : (outside : Setting) (name : List ℕ) (m : Meaning) → outside.name name ≡ Some m → (n : List ℕ) (node : ℕ) (o : Option ℕ) → o ≡ or_else (named_here outside n (Some name) node) o
+outside_more outside name m given n node o =
+    given_or (outside.name n) (bytes_eq n name) node o (λ same none. let is : n ≡ name = (bytes_eq-Decides n name).0 same in let both : Some m ≡ None = sym given ∙ ap outside.name (sym is) ∙ none in absurd cc)
+
+-- a name that is entered
+pub entered_more : (outside : Setting) (name : List ℕ) (node : ℕ) (new old : List ℕ → Option ℕ) → outside.name name ≡ None → new name ≡ Some node → ((n : List ℕ) → ¬ (n ≡ name) → new n ≡ old n)
+    → (n : List ℕ) → new n ≡ or_else (named_here outside n (Some name) node) (old n)
+entered_more outside name node new old free is others n =
+    entered_or (outside.name n) (bytes_eq n name) node (new n) (old n) (λ same. let at : n ≡ name = (bytes_eq-Decides n name).0 same in (ap outside.name at ∙ free, ap new at ∙ is))
+    (λ apart. others n (λ e. false≢true (sym apart ∙ (bytes_eq-Decides n name).1 e)))
+
+front_cases : (f : ℕ → ℕ) (j : ℕ) (g : Option Meaning) (b : Bool) (o : Option ℕ) → option_map (λ i. f (j + i)) (unless_given g (if b then Some 0 else option_map suc o)) ≡ or_else (given_here g b (f j)) (option_map (λ i. f ((j + 1) + i)) (unless_given g o))
+front_cases f j None true o = ap (λ (m : ℕ). Some (f m)) (let e : j + 0 ≡ j = omega arith in e)
+front_cases f j None false None = refl
+front_cases f j None false (Some i) = ap (λ (m : ℕ). Some (f m)) (let e : j + suc i ≡ (j + 1) + i = omega arith in e)
+front_cases f j (Some m) b o = refl
+
+-- what a name stands for from an item on, counted from there, and from the one before it on
+abbrev pub index_from : Setting → List Row → ℕ → (ℕ → ℕ) → List ℕ → Option ℕ
+index_from outside rows k f n = option_map (λ i. f (k + i)) (constant_at outside (drop k rows) n)
+
+pub index_more : (outside : Setting) (rows : List Row) (k : ℕ) (f : ℕ → ℕ) (n : List ℕ) → 0 < k → k ≤ length rows → index_from outside rows (k - 1) f n ≡ or_else (named_here outside n (row_at rows (k - 1)).item.name (f (k - 1))) (index_from outside rows k f n)
+index_more outside rows k f n some within =
+    let j : ℕ = k - 1 in
+    let next : j + 1 ≡ k = omega arith in
+    ap (λ rs. option_map (λ i. f (j + i)) (constant_at outside rs n)) (drop_more rows j no_row (omega arith))
+    ∙ front_cases f j (outside.name n) (is_named n (row_at rows j).item.name) (first_named (drop (j + 1) rows) n)
+    ∙ ap (λ (m : ℕ). or_else (named_here outside n (row_at rows j).item.name (f j)) (index_from outside rows m f n)) next
+
+none_given : (g : Option Meaning) → unless_given g None ≡ None
+none_given None = refl
+none_given (Some m) = refl
+
+pub index_begin : (outside : Setting) (rows : List Row) (k : ℕ) (f : ℕ → ℕ) (n : List ℕ) → length rows ≤ k → index_from outside rows k f n ≡ None
+index_begin outside rows k f n past =
+    ap (λ rs. option_map (λ i. f (k + i)) (constant_at outside rs n)) (drop_all k rows past) ∙ ap (option_map (λ i. f (k + i))) (none_given (outside.name n))
+
+pub index_end : (outside : Setting) (rows : List Row) (f : ℕ → ℕ) (n : List ℕ) → index_from outside rows 0 f n ≡ option_map f (constant_at outside rows n)
+index_end outside rows f n = same_from (constant_at outside rows n)
+  where
+    same_from : (o : Option ℕ) → option_map (λ i. f (0 + i)) o ≡ option_map f o
+    same_from None = refl
+    same_from (Some i) = ap (λ (m : ℕ). Some (f m)) (let e : 0 + i ≡ i = omega arith in e)

@@ -17,22 +17,21 @@ pub(crate) struct Index {
 }
 
 impl Index {
-    /// The names of a file's constants, each with the node of its first definition.
+    /// The names of a file's constants, each with the node of its first definition: they are entered from the last one on.
     pub(crate) fn of_rows(alloc: Global, rows: &Rows, outside: &Consts) -> Result<Index, NoMemory>
         requires { 2 * length rows.now + length rows.now < 2 ^ 64 }
         ensures { IfOk result (λ index. (n : List ℕ) →
             at_bytes n index.names ≡ option_map (node_of (rows_from rows.now)) (constant_at (setting_of outside.now) (rows_from rows.now) n)) }
     {
-        let mut index = Index {
-            names: BTreeMap::new(alloc),
-        };
-        for k in 0..rows.len() {
+        let names = BTreeMap::new(alloc);
+        let mut index = Index { names };
+        for k in (0..rows.len()).rev() {
             index.add(alloc, &rows.item(k).name, rows.node(k), outside)?;
         }
         Ok(index)
     }
 
-    // Adds a name, unless it stands outside or is there.
+    // Adds a name, in place of what stood at it, unless it stands outside.
     fn add(
         &mut self,
         alloc: Global,
@@ -41,7 +40,7 @@ impl Index {
         outside: &Consts,
     ) -> Result<(), AllocError>
         ensures { OnOk result ((n : List ℕ) → at_bytes n self.new.names ≡
-            or_else (at_bytes n self.old.names) (named_here (setting_of outside.now) n name.now node)) }
+            or_else (named_here (setting_of outside.now) n name.now node) (at_bytes n self.old.names)) }
     {
         match name {
             None => Ok(()),
@@ -57,12 +56,12 @@ impl Index {
         outside: &Consts,
     ) -> Result<(), AllocError>
         ensures { OnOk result ((n : List ℕ) → at_bytes n self.new.names ≡
-            or_else (at_bytes n self.old.names) (named_here (setting_of outside.now) n (Some name.now) node)) }
+            or_else (named_here (setting_of outside.now) n (Some name.now) node) (at_bytes n self.old.names)) }
     {
-        if outside.get(name).is_some() || self.get(name).is_some() {
-            return Ok(());
+        match outside.get(name) {
+            Some(_) => Ok(()),
+            None => self.insert(alloc, name, node),
         }
-        self.insert(alloc, name, node)
     }
 
     fn insert(&mut self, alloc: Global, name: &Text, node: usize) -> Result<(), AllocError>
