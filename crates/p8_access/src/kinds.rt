@@ -13,22 +13,14 @@ pub enum Width {
 
 /// What a cog is started with. Every address is a hub address in bytes.
 #[derive(Clone, Copy, Debug, PartialEq, Eq)]
+#[rattlefmt::skip]
 pub enum Origin {
     /// Propeller Assembly: 496 longs from `code` on, with `par` in the register PAR.
     /// Both are multiples of 4.
-    Pasm {
-        code: u16,
-        par: u16,
-    },
+    Pasm { code: u16, par: u16 },
     /// A Spin method: the address of its first bytecode, the bases of its object and of its
     /// variables, its frame (a multiple of 4), and the bytes of the frame after its result.
-    Spin {
-        entry: u16,
-        pbase: u16,
-        vbase: u16,
-        frame: u16,
-        size: u16,
-    },
+    Spin { entry: u16, pbase: u16, vbase: u16, frame: u16, size: u16 },
 }
 
 /// What a wait waits for (Propeller Manual v1.2, WAITCNT, WAITPEQ and WAITPNE).
@@ -69,71 +61,44 @@ pub enum Reason {
 
 /// One thing that a cog does beyond its own registers.
 #[derive(Clone, Copy, Debug, PartialEq, Eq)]
+#[rattlefmt::skip]
 pub enum Access {
     /// A Spin life begins.
     Begin,
     /// A PASM life takes its 496 longs.
     Load,
     /// Reads hub memory at an aligned address.
-    Read {
-        width: Width,
-        address: u16,
-    },
+    Read { width: Width, address: u16 },
     /// Writes hub memory at an aligned address; the value is reduced to the width.
-    Write {
-        width: Width,
-        address: u16,
-        value: u32,
-    },
+    Write { width: Width, address: u16, value: u32 },
     /// Asks for the cog's own number.
     CogId,
     /// Starts a cog: the named one, or the lowest stopped one.
-    CogInit {
-        target: Option<u8>,
-        origin: Origin,
-    },
+    CogInit { target: Option<u8>, origin: Origin },
     /// Stops a cog.
-    CogStop {
-        cog: u8,
-    },
+    CogStop { cog: u8 },
     /// Takes the lowest lock that isn't taken.
     LockNew,
     /// Gives a lock back.
-    LockRet {
-        lock: u8,
-    },
+    LockRet { lock: u8 },
     /// Sets a lock and asks for its previous state.
-    LockSet {
-        lock: u8,
-    },
+    LockSet { lock: u8 },
     /// Clears a lock and asks for its previous state.
-    LockClr {
-        lock: u8,
-    },
+    LockClr { lock: u8 },
     /// Sets the clock mode, which changes nothing in this machine.
-    ClkSet {
-        mode: u8,
-    },
+    ClkSet { mode: u8 },
     /// Reads all 32 pins.
     PinsIn,
     /// Writes the cog's register OUTA.
-    OutSet {
-        value: u32,
-    },
+    OutSet { value: u32 },
     /// Writes the cog's register DIRA.
-    DirSet {
-        value: u32,
-    },
+    DirSet { value: u32 },
     /// Waits until a test holds.
-    Wait {
-        test: Test,
-    },
+    Wait { test: Test },
     /// Reads the system counter CNT.
     Clock,
     /// The cog halts.
-    Halt {
-        reason: Reason,
-    },
+    Halt { reason: Reason },
 }
 
 /// What the machine answers to an access.

@@ -17,40 +17,26 @@ pub struct Callee {
 
 /// What a value is read for.
 #[derive(Clone, Copy)]
+#[rattlefmt::skip]
 pub enum Wanted {
     /// To be pushed.
     Pushed,
     /// To be changed by the effect, which may have a right side.
-    Changed {
-        effect: u8,
-        right: u32,
-    },
+    Changed { effect: u8, right: u32 },
     /// To be left, when this value is written.
-    Replaced {
-        value: u32,
-    },
+    Replaced { value: u32 },
     /// To be stepped by REPEAT, which jumps while the new value lies between these.
-    Stepped {
-        by: u32,
-        from: u32,
-        to: u32,
-        target: u16,
-    },
+    Stepped { by: u32, from: u32, to: u32, target: u16 },
 }
 
 /// What longs are written for.
 #[derive(Clone, Copy)]
+#[rattlefmt::skip]
 pub enum Given {
     /// A method is called.
-    Called {
-        callee: Callee,
-    },
+    Called { callee: Callee },
     /// A method is started in a cog; so many operands are taken then.
-    Started {
-        target: Option<u8>,
-        origin: Origin,
-        taken: usize,
-    },
+    Started { target: Option<u8>, origin: Origin, taken: usize },
 }
 
 /// What comes after an answer.

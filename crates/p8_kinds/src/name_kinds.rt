@@ -3,36 +3,21 @@ use p8_tree::Text;
 
 /// What a name of a file is.
 #[derive(Clone, Copy, Debug, PartialEq, Eq)]
+#[rattlefmt::skip]
 pub enum NameKind {
     /// A constant with its value.
     Const(u32),
     /// A variable of `VAR`: its size, 1, 2 or 4 bytes, and its offset in the object's variables.
-    Global {
-        size: u8,
-        offset: u32,
-    },
+    Global { size: u8, offset: u32 },
     /// A parameter, the result or a local of a method: its offset in the frame, in bytes. The result stands at 0.
-    Local {
-        offset: u32,
-    },
+    Local { offset: u32 },
     /// A label of `DAT`: its size, 1, 2 or 4 bytes, as Spin reads and writes what stands there.
-    Label {
-        size: u8,
-    },
+    Label { size: u8 },
     /// A method: its number, which stops at 255, and how many parameters it has.
-    Method {
-        number: u8,
-        params: u8,
-    },
-    /// An object.
-    Object {
-        /// Its number among the items of `OBJ`, from 0.
-        item: u32,
-        /// The place of its first instance in the object's table; it stops at 255.
-        position: u8,
-        /// How many instances there are; it stops at 255.
-        count: u8,
-    },
+    Method { number: u8, params: u8 },
+    /// An object: its number among the items of `OBJ`, from 0; the place of its first instance in the object's table, and how many instances there
+    /// are, which both stop at 255.
+    Object { item: u32, position: u8, count: u8 },
 }
 
 /// A label of `DAT` with its place.
