@@ -29,92 +29,34 @@ hub_writing n = record { opcode = 3; flags = 3; cond = 15; dest = 0; source = n 
 abbrev pub hub_quiet : ℕ → Instr
 hub_quiet n = record { opcode = 3; flags = 1; cond = 15; dest = 0; source = n }
 
--- Every word: first those of the opcodes 0 to 63, then the further words for some of them. RET is a jump to the number 0 and CALL a jump with
--- return to a number, so their source is immediate. NOP is the long 0.
+-- Every word: first those of the opcodes 0 to 63, from 4 on four in a line, then the further words for some of them. RET is a jump to the number 0 and
+-- CALL a jump with return to a number, so their source is immediate. NOP is the long 0.
 unfoldable pub mnemonics : List (List ℕ × Instr)
 mnemonics =
-    (codes "RDBYTE", writing 0) ∷
-    (codes "RDWORD", writing 1) ∷
-    (codes "RDLONG", writing 2) ∷
-    (codes "WRBYTE", quiet 0) ∷
-    (codes "WRWORD", quiet 1) ∷
-    (codes "WRLONG", quiet 2) ∷
+    (codes "RDBYTE", writing 0) ∷ (codes "RDWORD", writing 1) ∷ (codes "RDLONG", writing 2) ∷
+    (codes "WRBYTE", quiet 0) ∷ (codes "WRWORD", quiet 1) ∷ (codes "WRLONG", quiet 2) ∷
     (codes "HUBOP", quiet 3) ∷
-    (codes "MUL", writing 4) ∷
-    (codes "MULS", writing 5) ∷
-    (codes "ENC", writing 6) ∷
-    (codes "ONES", writing 7) ∷
-    (codes "ROR", writing 8) ∷
-    (codes "ROL", writing 9) ∷
-    (codes "SHR", writing 10) ∷
-    (codes "SHL", writing 11) ∷
-    (codes "RCR", writing 12) ∷
-    (codes "RCL", writing 13) ∷
-    (codes "SAR", writing 14) ∷
-    (codes "REV", writing 15) ∷
-    (codes "MINS", writing 16) ∷
-    (codes "MAXS", writing 17) ∷
-    (codes "MIN", writing 18) ∷
-    (codes "MAX", writing 19) ∷
-    (codes "MOVS", writing 20) ∷
-    (codes "MOVD", writing 21) ∷
-    (codes "MOVI", writing 22) ∷
-    (codes "JMPRET", writing 23) ∷
-    (codes "AND", writing 24) ∷
-    (codes "ANDN", writing 25) ∷
-    (codes "OR", writing 26) ∷
-    (codes "XOR", writing 27) ∷
-    (codes "MUXC", writing 28) ∷
-    (codes "MUXNC", writing 29) ∷
-    (codes "MUXZ", writing 30) ∷
-    (codes "MUXNZ", writing 31) ∷
-    (codes "ADD", writing 32) ∷
-    (codes "SUB", writing 33) ∷
-    (codes "ADDABS", writing 34) ∷
-    (codes "SUBABS", writing 35) ∷
-    (codes "SUMC", writing 36) ∷
-    (codes "SUMNC", writing 37) ∷
-    (codes "SUMZ", writing 38) ∷
-    (codes "SUMNZ", writing 39) ∷
-    (codes "MOV", writing 40) ∷
-    (codes "NEG", writing 41) ∷
-    (codes "ABS", writing 42) ∷
-    (codes "ABSNEG", writing 43) ∷
-    (codes "NEGC", writing 44) ∷
-    (codes "NEGNC", writing 45) ∷
-    (codes "NEGZ", writing 46) ∷
-    (codes "NEGNZ", writing 47) ∷
-    (codes "CMPS", quiet 48) ∷
-    (codes "CMPSX", quiet 49) ∷
-    (codes "ADDX", writing 50) ∷
-    (codes "SUBX", writing 51) ∷
-    (codes "ADDS", writing 52) ∷
-    (codes "SUBS", writing 53) ∷
-    (codes "ADDSX", writing 54) ∷
-    (codes "SUBSX", writing 55) ∷
-    (codes "CMPSUB", writing 56) ∷
-    (codes "DJNZ", writing 57) ∷
-    (codes "TJNZ", quiet 58) ∷
-    (codes "TJZ", quiet 59) ∷
-    (codes "WAITPEQ", quiet 60) ∷
-    (codes "WAITPNE", quiet 61) ∷
-    (codes "WAITCNT", writing 62) ∷
-    (codes "WAITVID", quiet 63) ∷
-    (codes "TEST", quiet 24) ∷
-    (codes "TESTN", quiet 25) ∷
-    (codes "CMP", quiet 33) ∷
-    (codes "CMPX", quiet 51) ∷
+    (codes "MUL", writing 4) ∷ (codes "MULS", writing 5) ∷ (codes "ENC", writing 6) ∷ (codes "ONES", writing 7) ∷
+    (codes "ROR", writing 8) ∷ (codes "ROL", writing 9) ∷ (codes "SHR", writing 10) ∷ (codes "SHL", writing 11) ∷
+    (codes "RCR", writing 12) ∷ (codes "RCL", writing 13) ∷ (codes "SAR", writing 14) ∷ (codes "REV", writing 15) ∷
+    (codes "MINS", writing 16) ∷ (codes "MAXS", writing 17) ∷ (codes "MIN", writing 18) ∷ (codes "MAX", writing 19) ∷
+    (codes "MOVS", writing 20) ∷ (codes "MOVD", writing 21) ∷ (codes "MOVI", writing 22) ∷ (codes "JMPRET", writing 23) ∷
+    (codes "AND", writing 24) ∷ (codes "ANDN", writing 25) ∷ (codes "OR", writing 26) ∷ (codes "XOR", writing 27) ∷
+    (codes "MUXC", writing 28) ∷ (codes "MUXNC", writing 29) ∷ (codes "MUXZ", writing 30) ∷ (codes "MUXNZ", writing 31) ∷
+    (codes "ADD", writing 32) ∷ (codes "SUB", writing 33) ∷ (codes "ADDABS", writing 34) ∷ (codes "SUBABS", writing 35) ∷
+    (codes "SUMC", writing 36) ∷ (codes "SUMNC", writing 37) ∷ (codes "SUMZ", writing 38) ∷ (codes "SUMNZ", writing 39) ∷
+    (codes "MOV", writing 40) ∷ (codes "NEG", writing 41) ∷ (codes "ABS", writing 42) ∷ (codes "ABSNEG", writing 43) ∷
+    (codes "NEGC", writing 44) ∷ (codes "NEGNC", writing 45) ∷ (codes "NEGZ", writing 46) ∷ (codes "NEGNZ", writing 47) ∷
+    (codes "CMPS", quiet 48) ∷ (codes "CMPSX", quiet 49) ∷ (codes "ADDX", writing 50) ∷ (codes "SUBX", writing 51) ∷
+    (codes "ADDS", writing 52) ∷ (codes "SUBS", writing 53) ∷ (codes "ADDSX", writing 54) ∷ (codes "SUBSX", writing 55) ∷
+    (codes "CMPSUB", writing 56) ∷ (codes "DJNZ", writing 57) ∷ (codes "TJNZ", quiet 58) ∷ (codes "TJZ", quiet 59) ∷
+    (codes "WAITPEQ", quiet 60) ∷ (codes "WAITPNE", quiet 61) ∷ (codes "WAITCNT", writing 62) ∷ (codes "WAITVID", quiet 63) ∷
+    (codes "TEST", quiet 24) ∷ (codes "TESTN", quiet 25) ∷ (codes "CMP", quiet 33) ∷ (codes "CMPX", quiet 51) ∷
     (codes "JMP", quiet 23) ∷
     (codes "RET", record { opcode = 23; flags = 1; cond = 15; dest = 0; source = 0 }) ∷
     (codes "CALL", record { opcode = 23; flags = 3; cond = 15; dest = 0; source = 0 }) ∷
-    (codes "CLKSET", hub_quiet 0) ∷
-    (codes "COGID", hub_writing 1) ∷
-    (codes "COGINIT", hub_quiet 2) ∷
-    (codes "COGSTOP", hub_quiet 3) ∷
-    (codes "LOCKNEW", hub_writing 4) ∷
-    (codes "LOCKRET", hub_quiet 5) ∷
-    (codes "LOCKSET", hub_quiet 6) ∷
-    (codes "LOCKCLR", hub_quiet 7) ∷
+    (codes "CLKSET", hub_quiet 0) ∷ (codes "COGID", hub_writing 1) ∷ (codes "COGINIT", hub_quiet 2) ∷ (codes "COGSTOP", hub_quiet 3) ∷
+    (codes "LOCKNEW", hub_writing 4) ∷ (codes "LOCKRET", hub_quiet 5) ∷ (codes "LOCKSET", hub_quiet 6) ∷ (codes "LOCKCLR", hub_quiet 7) ∷
     (codes "NOP", record { opcode = 0; flags = 0; cond = 0; dest = 0; source = 0 }) ∷
     []
 
