@@ -1,6 +1,7 @@
 -- What public contracts cite.
 pub mod Windows
 pub mod Proper
+pub mod Addresses
 pub mod Boots
 pub mod Lives
 pub mod Worlds

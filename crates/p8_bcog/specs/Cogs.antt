@@ -1,5 +1,5 @@
 -- Cogs, locks and waits. Locks, and the cog that is stopped, are named by the low three bits.
-use Rattle.std.specs.Prelude.{ℕ, ◌+◌, ◌-◌, ◌*◌, ◌/◌, ◌%◌, ◌^◌, ◌==◌, nat_lt, not, List, length, take, drop, Option, Some, None, if◌then◌else◌}
+use Rattle.std.specs.Prelude.{ℕ, ◌+◌, ◌-◌, ◌*◌, ◌%◌, ◌^◌, ◌==◌, not, List, length, take, drop, None, if◌then◌else◌}
 use Rattle.p8_access.specs.declared.kinds.Origin.{Origin}
 use Rattle.p8_access.specs.declared.kinds.Origin.TheVariants.{Pasm, Spin}
 use Rattle.p8_access.specs.declared.kinds.Test.{Test}
@@ -14,6 +14,7 @@ use Rattle.p8_bcog.specs.Code.{is_method, method_at}
 use Rattle.p8_bcog.specs.Operands.{operand, taken, tested}
 use Rattle.p8_bcog.specs.Accesses.{ends, gets}
 use Rattle.p8_bcog.specs.Calls.{gives}
+pub use Rattle.p8_access.specs.Addresses.{long_address, cog_named as target_of}
 
 -- an access that leaves nothing, and takes so many operands
 unfoldable pub tells : (takes : ℕ) → Access → State → Course State
@@ -22,14 +23,6 @@ tells takes access s = tested takes 0 s (ends access None (taken takes s))
 -- an access whose word is left
 unfoldable pub asks_word : (takes : ℕ) → Access → State → Course State
 asks_word takes access s = tested takes 1 s (gets access (taken takes s))
-
--- the low 16 bits of a value with bits 1 and 0 cleared
-abbrev pub long_address : (value : ℕ) → ℕ
-long_address value = value % 2 ^ 16 / 4 * 4
-
--- an id of 0 to 7 names a cog, and another one asks for a new cog
-abbrev pub target_of : (id : ℕ) → Option ℕ
-target_of id = if nat_lt id 8 then Some id else None
 
 -- 15 m k ( id a1 to ak s -- c ) the k arguments are written at s + 4 and on, and a cog is started with the method m
 -- and the frame s

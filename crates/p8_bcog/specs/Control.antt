@@ -2,7 +2,8 @@
 use Rattle.std.specs.Prelude.{ℕ, ◌==◌, not, nat_le, if◌then◌else◌}
 use Rattle.p8_access.specs.Courses.{Course, Finish}
 use Rattle.p8_bcog.specs.declared.state.State.{State}
-use Rattle.p8_bcog.specs.Operands.{operand, taken, replaced, tested, jumped, jumped_if, is_at_most, is_between, sum_of, difference, distance}
+use Rattle.p8_bcog.specs.Operands.{operand, taken, replaced, tested, jumped, jumped_if, is_between, sum_of, difference, distance}
+pub use Rattle.p8_words.specs.Fields.{toward}
 
 -- 04 ( -- ) jump
 abbrev pub jump : (offset : ℕ) → State → Course State
@@ -57,10 +58,6 @@ lookdown_value offset s =
     tested 3 2 s
     (Finish (if operand s 2 == operand s 0 then jumped offset (replaced 3 (operand s 1) s)
     else replaced 2 (sum_of (operand s 1) 1) s))
-
--- the value that lies so far from a toward b
-abbrev pub toward : (a b far : ℕ) → ℕ
-toward a b far = if is_at_most a b then sum_of a far else difference a far
 
 -- 12 ( v k a b -- ) with w the distance of a and b and d = v - k: where d is at most w, leave the value that lies d from a
 -- toward b, and jump; else ( -- v k + w + 1 )

@@ -1,15 +1,13 @@
 -- Fills, moves and texts: rows of elements by ascending address, an access or two for each.
-use Rattle.std.specs.Prelude.{ℕ, zero, suc, ◌+◌, ◌-◌, ◌%◌, ◌^◌, ◌==◌, nat_lt, if◌then◌else◌}
+use Rattle.std.specs.Prelude.{ℕ, zero, suc, ◌+◌, ◌-◌, ◌%◌, ◌^◌, ◌==◌, if◌then◌else◌}
 use Rattle.p8_access.specs.declared.kinds.Width.{Width}
 use Rattle.p8_access.specs.declared.kinds.Width.TheVariants.{Byte}
 use Rattle.p8_access.specs.Courses.{Course, Finish, Ask}
 use Rattle.p8_bcog.specs.declared.state.State.{State}
 use Rattle.p8_bcog.specs.Operands.{operand, taken, pushed, tested}
 use Rattle.p8_bcog.specs.Accesses.{word_in, read_of, is_readable, rom_halt, write_of, next_address}
-
--- a count below 1, as a signed value, is 0
-abbrev pub count_of : (value : ℕ) → ℕ
-count_of value = if nat_lt value (2 ^ 31) then value else 0
+pub use Rattle.p8_words.specs.Fields.{count_of}
+pub use Rattle.p8_access.specs.Addresses.{room_from}
 
 -- ---- 18, 19, 1A ( a v n -- ) fill bytes, words, longs
 
@@ -38,9 +36,6 @@ move_elements width s =
     tested 3 0 s (moves width (operand s 2 % 2 ^ 16) (operand s 1 % 2 ^ 16) (count_of (operand s 0)) (taken 3 s))
 
 -- ---- texts: bytes up to a 0. From an address below $8000 so many bytes can be read.
-
-abbrev pub room_from : (address : ℕ) → ℕ
-room_from address = 32768 - address
 
 -- 16 ( a -- n ) the number of bytes from a up to a 0, without it
 unfoldable pub counts : (room address count : ℕ) → State → Course State

@@ -1,11 +1,11 @@
 -- The operands of a bytecode, and what is tested of them before anything else.
-use Rattle.std.specs.Prelude.{ℕ, ◌+◌, ◌-◌, ◌%◌, ◌^◌, nat_lt, [], ◌∷◌, ◌++◌, length, take, slice_index, if◌then◌else◌, Bool, int_le, ◌&&◌, ◌||◌}
+use Rattle.std.specs.Prelude.{ℕ, ◌+◌, ◌-◌, ◌%◌, ◌^◌, nat_lt, [], ◌∷◌, ◌++◌, length, take, slice_index, if◌then◌else◌, Bool}
 use Rattle.std.specs.Prelude.{Option, Some, None}
 use Rattle.p8_access.specs.declared.kinds.Reason.{Reason}
 use Rattle.p8_access.specs.declared.kinds.Reason.TheVariants as Why
-use Rattle.p8_words.specs.Words.{signed_value}
 use Rattle.p8_access.specs.Courses.{Course, Stop}
 use Rattle.p8_bcog.specs.declared.state.State.{State}
+pub use Rattle.p8_words.specs.Fields.{is_at_most, is_between, sum_of, difference, distance}
 
 -- how many operands there are
 abbrev pub operands : State → ℕ
@@ -55,21 +55,3 @@ abbrev pub jumped_if : Bool → (offset : ℕ) → State → State
 jumped_if jumps offset s = if jumps then jumped offset s else s
 
 -- ---- signed values
-
-abbrev pub is_at_most : (a b : ℕ) → Bool
-is_at_most a b = int_le (signed_value a) (signed_value b)
-
--- between two ends, in either order
-abbrev pub is_between : (v a b : ℕ) → Bool
-is_between v a b = (is_at_most a v && is_at_most v b) || (is_at_most b v && is_at_most v a)
-
--- sums and differences are taken mod 2 ^ 32
-abbrev pub sum_of : (a b : ℕ) → ℕ
-sum_of a b = (a + b) % 2 ^ 32
-
-abbrev pub difference : (a b : ℕ) → ℕ
-difference a b = (a + (2 ^ 32 - b)) % 2 ^ 32
-
--- how far two signed values are apart
-abbrev pub distance : (a b : ℕ) → ℕ
-distance a b = if is_at_most a b then difference b a else difference a b

@@ -1,44 +1,20 @@
 -- Variables: hub memory, and pins of a register.
-use Rattle.std.specs.Prelude.{ℕ, ◌+◌, ◌-◌, ◌*◌, ◌/◌, ◌%◌, ◌^◌, ◌==◌, min, not, ◌&&◌, ◌||◌, Bool, nat_lt, nat_le, bit_and, bit_or, Option, Some, None}
+use Rattle.std.specs.Prelude.{ℕ, ◌+◌, ◌%◌, ◌^◌, ◌==◌, not, ◌&&◌, ◌||◌, Bool, nat_lt, nat_le, bit_and, Option, Some, None}
 use Rattle.std.specs.Prelude.{if◌then◌else◌}
 use Rattle.p8_access.specs.declared.kinds.Reason.TheVariants as Why
 use Rattle.p8_access.specs.declared.kinds.Access.{Access}
 use Rattle.p8_access.specs.declared.kinds.Access.TheVariants.{PinsIn, OutSet, DirSet, Clock}
 use Rattle.p8_access.specs.Proper.{bytes_in}
-use Rattle.p8_words.specs.Words.{reversed}
 use Rattle.p8_access.specs.Courses.{Course, Finish, Stop, Ask}
 use Rattle.p8_bcog.specs.declared.state.State.{State}
 use Rattle.p8_bcog.specs.declared.place.Place.{Place}
 use Rattle.p8_bcog.specs.declared.place.Place.TheVariants.{Memory, Pins}
 use Rattle.p8_bcog.specs.declared.step.Wanted.{Wanted}
 use Rattle.p8_bcog.specs.declared.step.Wanted.TheVariants.{Pushed, Changed, Replaced, Stepped}
-use Rattle.p8_bcog.specs.Operands.{pushed, left_by, is_between, is_at_most, sum_of, difference}
+use Rattle.p8_bcog.specs.Operands.{pushed, left_by, is_between, sum_of, difference}
 use Rattle.p8_words.specs.Operators.{is_unary, unary_value, binary_value}
 use Rattle.p8_bcog.specs.Accesses.{word_in, ends, read_of, is_readable, rom_halt, write_of}
-
--- ---- some pins of a register
-
--- how many pins there are from one to another, in either order
-abbrev pub pins_in : (high low : ℕ) → ℕ
-pins_in high low = (if nat_le low high then high - low else low - high) + 1
-
--- a word of so many ones
-abbrev pub ones : (count : ℕ) → ℕ
-ones count = (2 ^ 32 - 1) / 2 ^ (32 - count)
-
--- these bits in the order of the pins: the opposite one where the pin of the highest bit is the lesser
-abbrev pub ordered : (high low bits : ℕ) → ℕ
-ordered high low bits = if nat_le low high then bits else reversed bits / 2 ^ (32 - pins_in high low)
-
-abbrev pub pins_of : (high low word : ℕ) → ℕ
-pins_of high low word = ordered high low (bit_and (word / 2 ^ min high low) (ones (pins_in high low)))
-
-abbrev pub mask_of : (high low : ℕ) → ℕ
-mask_of high low = ones (pins_in high low) * 2 ^ min high low % 2 ^ 32
-
-abbrev pub with_pins : (high low value word : ℕ) → ℕ
-with_pins high low value word =
-    bit_or (bit_and word (2 ^ 32 - 1 - mask_of high low)) (ordered high low (bit_and value (ones (pins_in high low))) * 2 ^ min high low % 2 ^ 32)
+pub use Rattle.p8_words.specs.Fields.{extended, stepped, pins_in, ones, ordered, pins_of, mask_of, with_pins}
 
 -- ---- registers by their addresses
 
@@ -88,11 +64,6 @@ writes_place (Pins register high low) value left s =
 
 -- ---- effects
 
--- the sign of bit 7 or of bit 15 is extended
-abbrev pub extended : (bits value : ℕ) → ℕ
-extended bits value =
-    if nat_lt (value % 2 ^ bits) (2 ^ (bits - 1)) then value % 2 ^ bits else value % 2 ^ bits + (2 ^ 32 - 2 ^ bits)
-
 -- the new value by an effect, whose bit 7 doesn't matter, and its right side
 abbrev pub updated : (effect value right : ℕ) → ℕ
 updated effect value right =
@@ -110,10 +81,6 @@ leaves_old effect = (nat_le 0x28 effect && nat_lt effect 0x30) || (nat_le 0x38 e
 -- bit 7 leaves a value
 abbrev pub left_of : (effect value : ℕ) → Option ℕ
 left_of effect value = if nat_le 128 effect then Some value else None
-
--- REPEAT adds its step where it goes up, and else subtracts it
-abbrev pub stepped : (value by from to : ℕ) → ℕ
-stepped value by from to = if is_at_most from to then sum_of value by else difference value by
 
 -- ---- what a value is read for
 

@@ -1,6 +1,6 @@
 -- Built-ins, by the values of their arguments. They are numbered as trees number them.
 -- Sources: the Propeller Manual v1.2, the page of each word in the Spin chapter.
-use Rattle.std.specs.Prelude.{ℕ, zero, suc, ◌+◌, ◌-◌, ◌/◌, ◌*◌, ◌%◌, ◌^◌, ◌==◌, nat_lt, Option, Some, None, if◌then◌else◌}
+use Rattle.std.specs.Prelude.{ℕ, zero, suc, ◌+◌, ◌-◌, ◌%◌, ◌^◌, ◌==◌, if◌then◌else◌}
 use Rattle.p8_access.specs.declared.kinds.Width.{Width}
 use Rattle.p8_access.specs.declared.kinds.Width.TheVariants.{Byte, Word, Long}
 use Rattle.p8_access.specs.declared.kinds.Origin.TheVariants.{Pasm}
@@ -10,6 +10,7 @@ use Rattle.p8_access.specs.declared.kinds.Reason.TheVariants as Why
 use Rattle.p8_access.specs.declared.kinds.Access.TheVariants.{CogId, CogInit, CogStop, LockNew, LockRet, LockSet, LockClr, Wait}
 use Rattle.p8_meaning.specs.Values.{count_of}
 use Rattle.p8_meaning.specs.Doing.{Rest, Gives, untold, halts, asks, tells, asks_for, halts_at_rom, reads, writes, next_address}
+pub use Rattle.p8_access.specs.Addresses.{room_from, cog_named, long_address}
 
 -- ---- rows of elements go by ascending address, whatever they overlap (profile)
 
@@ -27,9 +28,6 @@ moves width to from (suc left) go bound own =
 
 -- ---- texts end with a byte of 0. From an address below $8000 so many bytes can be read.
 
-abbrev pub room_from : (address : ℕ) → ℕ
-room_from address = 32768 - address
-
 -- STRSIZE: the number of bytes up to the 0
 abbrev pub measures : (room address count : ℕ) → Gives ℕ
 measures zero address count go bound own = halts_at_rom Byte address bound own
@@ -45,17 +43,9 @@ compares (suc room) first second go bound own =
 
 -- ---- cogs
 
--- an id of 0 to 7 names a cog, and another one asks for a new cog (profile)
-abbrev pub cog_named : (id : ℕ) → Option ℕ
-cog_named id = if nat_lt id 8 then Some id else None
-
 -- COGNEW asks for a new one
 abbrev pub new_cog : ℕ
 new_cog = 2 ^ 32 - 1
-
--- the low 16 bits of a value with bits 1 and 0 cleared (profile)
-abbrev pub long_address : (value : ℕ) → ℕ
-long_address value = value % 2 ^ 16 / 4 * 4
 
 -- COGNEW and COGINIT of Propeller Assembly, with the address of its code and PAR
 abbrev pub starts_pasm : (id code par : ℕ) → Gives ℕ

@@ -1,6 +1,6 @@
 -- How it is said what a method does: by what is still to be done. A method reads and writes hub memory, and asks of the machine whatever
 -- else passes between a cog and the rest; each of these is an access with its answer, and is asked for a statement.
-use Rattle.std.specs.Prelude.{ℕ, zero, suc, ◌+◌, ◌-◌, ◌*◌, ◌/◌, ◌%◌, ◌^◌, nat_lt, Bool, true, false, List, [], ◌∷◌, Option, Some, None, if◌then◌else◌}
+use Rattle.std.specs.Prelude.{ℕ, zero, suc, ◌%◌, ◌^◌, List, [], ◌∷◌, Option, Some, None, if◌then◌else◌}
 use Rattle.p8_access.specs.declared.kinds.Width.{Width}
 use Rattle.p8_access.specs.declared.kinds.Width.TheVariants.{Long}
 use Rattle.p8_access.specs.declared.kinds.Reason.{Reason}
@@ -8,10 +8,10 @@ use Rattle.p8_access.specs.declared.kinds.Reason.TheVariants as Why
 use Rattle.p8_access.specs.declared.kinds.Access.{Access}
 use Rattle.p8_access.specs.declared.kinds.Access.TheVariants.{Read, Write}
 use Rattle.p8_access.specs.declared.kinds.Answer.{Answer}
-use Rattle.p8_access.specs.declared.kinds.Answer.TheVariants.{Done, Value, Number, Was}
 use Rattle.p8_access.specs.Proper.{bytes_in}
 use Rattle.p8_access.specs.Courses.{Course, Finish, Stop, Ask}
 use Rattle.p8_tree.specs.declared.places.Place.{Place}
+pub use Rattle.p8_access.specs.Addresses.{word_in, aligned, is_readable, next_address}
 
 -- accesses, one after the other, each with the place of the statement for which it is asked
 pub data Deeds : Type 0 where
@@ -79,15 +79,6 @@ comes_back does bound own = does (for_statement own.statement) bound own
 
 -- ---- accesses
 
--- the word of an answer: -1 where no cog or lock was free, and for a lock that was set
-abbrev pub word_in : Answer → ℕ
-word_in (Value value) = value
-word_in (Number (Some n)) = n
-word_in (Number None) = 2 ^ 32 - 1
-word_in (Was true) = 2 ^ 32 - 1
-word_in (Was false) = 0
-word_in Done = 0
-
 abbrev pub asks : Access → Gives ℕ
 asks access go bound own = AsksFor own.statement access (λ answer. go (word_in answer) bound own)
 
@@ -96,14 +87,6 @@ abbrev pub tells : Access → Rest → Rest
 tells access go = asks access (λ word. go)
 
 -- ---- hub memory
-
--- an address is taken mod 65,536 and rounded down to a multiple of the width
-abbrev pub aligned : Width → (address : ℕ) → ℕ
-aligned width address = address % 2 ^ 16 / bytes_in width * bytes_in width
-
--- ROM, from $8000 on, can't be read: the cog halts in place of the read (profile)
-abbrev pub is_readable : Width → (address : ℕ) → Bool
-is_readable width address = nat_lt (aligned width address) 32768
 
 abbrev pub halts_at_rom : Width → (address : ℕ) → Rest
 halts_at_rom width address = halts (Why.Rom (aligned width address))
@@ -117,10 +100,6 @@ reads width address go = if is_readable width address then asks_for width addres
 -- a value is reduced to the width
 abbrev pub writes : Width → (address value : ℕ) → Rest → Rest
 writes width address value go = tells (Write width (aligned width address) (value % 256 ^ bytes_in width)) go
-
--- the next element of a row
-abbrev pub next_address : Width → (address : ℕ) → ℕ
-next_address width address = (address + bytes_in width) % 2 ^ 16
 
 -- longs, one after the other
 abbrev pub writes_longs : (address : ℕ) → List ℕ → Rest → Rest

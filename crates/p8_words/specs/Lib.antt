@@ -2,3 +2,5 @@
 pub mod Words
 -- What public contracts cite.
 pub mod Operators
+-- What public contracts cite.
+pub mod Fields
