@@ -11,7 +11,7 @@ use Rattle.p8_access.specs.declared.kinds.Origin.TheVariants.{Pasm}
 use Rattle.p8_access.specs.declared.kinds.Access.{Access}
 use Rattle.p8_access.specs.declared.kinds.Access.TheVariants.{Begin, Load, Write, CogInit, CogStop, LockNew, LockRet, LockSet, LockClr, Halt}
 use Rattle.p8_access.specs.declared.kinds.Answer.{Answer}
-use Rattle.p8_access.specs.declared.kinds.Answer.TheVariants.{Done, Value, Number, Was}
+use Rattle.p8_access.specs.declared.kinds.Answer.TheVariants.{Number}
 use Rattle.p8_access.specs.declared.order.Turn.{Turn}
 use Rattle.p8_access.specs.Proper.{bytes_in}
 use Rattle.p8_access.specs.declared.states.CogState.{CogState}
@@ -60,10 +60,7 @@ read_at w past width a = if nat_lt a 32768 then value_at w past width a else 0
 -- locks: an answer names this number
 abbrev pub is_number : ℕ → Answer → Bool
 is_number n (Number (Some m)) = m == n
-is_number n (Number None) = false
-is_number n Done = false
-is_number n (Value value) = false
-is_number n (Was set) = false
+is_number n _ = false
 
 -- taken by the LockNew that answered it, given back by its LockRet
 abbrev pub takes_by : ℕ → Access → Answer → Option Bool
@@ -121,8 +118,7 @@ cog_state w (turn ∷ past) n = changed (cog_state w past n) (change_of n turn)
 
 abbrev pub is_stopped : CogState → Bool
 is_stopped Stopped = true
-is_stopped (Starting since origin) = false
-is_stopped (Running origin) = false
+is_stopped _ = false
 
 -- the lowest cog that is stopped
 abbrev pub stopped_cog : World → List Turn → Option ℕ

@@ -113,6 +113,4 @@ Fits (Halt reason) answer = IsDone answer
 -- the value that an answer carries; an answer of another kind fits no access whose value is asked for
 abbrev pub value_of : Answer → ℕ
 value_of (Value value) = value
-value_of Done = 0
-value_of (Number n) = 0
-value_of (Was set) = 0
+value_of _ = 0

@@ -59,21 +59,15 @@ call_of mark open_marks s = record {
 -- the method begins at the height of the mark, which is closed; its frame begins where the caller's ends, and has
 -- its parameters and locals
 abbrev pub enters : Callee → Mark → List Mark → State → State
-enters callee mark marks s = record {
+enters callee mark marks s = record s {
   at = callee.entry;
   pbase = callee.pbase;
   vbase = callee.vbase;
   frame = frame_end s;
   size = (4 * (length s.stack - s.base) + callee.locals) % 2 ^ 16;
-  base = s.base;
   stack = take s.base s.stack;
   marks = marks;
   calls = call_of mark (length marks) s ∷ s.calls;
-  outa = s.outa;
-  outb = s.outb;
-  dira = s.dira;
-  dirb = s.dirb;
-  par = s.par;
 }
 
 abbrev pub entered : Callee → List Mark → State → State
@@ -134,7 +128,7 @@ call_indexed memory o n m s =
 
 -- the stack is lowered to the mark's height, and the caller's marks alone are left
 abbrev pub returned : Call → (older : List Call) → State → State
-returned call older s = record {
+returned call older s = record s {
   at = call.at;
   pbase = call.pbase;
   vbase = call.vbase;
@@ -144,11 +138,6 @@ returned call older s = record {
   stack = take call.height s.stack;
   marks = drop (length s.marks - call.marks) s.marks;
   calls = older;
-  outa = s.outa;
-  outb = s.outb;
-  dira = s.dira;
-  dirb = s.dirb;
-  par = s.par;
 }
 
 -- the value of a return or an abort: one that is given, or that of the result in a frame, which is read only where it is used

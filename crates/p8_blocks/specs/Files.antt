@@ -90,17 +90,7 @@ method_word false = word_case.Pri
 
 -- a method with this body
 abbrev pub with_body : MethodTree → Statements → MethodTree
-with_body m ss = record {
-  place = m.place;
-  public = m.public;
-  name = m.name;
-  params = m.params;
-  param_places = m.param_places;
-  result_name = m.result_name;
-  result_place = m.result_place;
-  locals = m.locals;
-  body = ss;
-}
+with_body m ss = record m { body = ss }
 
 -- these tokens are this block
 pub data IsBlock (h : Heights) : BlockTree → List LineToken → Type 0 where

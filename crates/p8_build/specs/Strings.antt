@@ -3,10 +3,10 @@
 -- arguments, and a WHILE or UNTIL after a loop's body after what is in it. The items of a STRING have no texts of their own.
 use Rattle.std.specs.Prelude.{List, [], ◌∷◌, ◌++◌, Option, Some, None}
 use Rattle.p8_tree.specs.declared.places.Place.{Place}
-use Rattle.p8_tree.specs.Expressions.{Tree, node, Form, Number, Str, Strings, Here, Var, Call, Unary, Binary, Assign, Change, Address, ObjectAddress}
-use Rattle.p8_tree.specs.Expressions.{ObjConst, Built, Look, Variable, Named, Part, Memory, Register, Index, no_index, index, Bits, whole, bits}
+use Rattle.p8_tree.specs.Expressions.{Tree, node, Form, Str, Strings, Var, Call, Unary, Binary, Assign, Change, Address, ObjectAddress}
+use Rattle.p8_tree.specs.Expressions.{Built, Look, Variable, Named, Part, Memory, Register, Index, no_index, index, Bits, whole, bits}
 use Rattle.p8_tree.specs.Expressions.{Item, single, range, Trees, no_trees, ◌▷◌, Items, no_items, ◌▸◌}
-use Rattle.p8_tree.specs.Statements.{Course, Count, Before, After, From, Statement, statement, Action, Do, If, Case, Repeat, Next, Quit, Return}
+use Rattle.p8_tree.specs.Statements.{Course, Count, Before, After, From, Statement, statement, Action, Do, If, Case, Repeat, Return}
 use Rattle.p8_tree.specs.Statements.{Abort, Arm, arm, Otherwise, nothing_else, otherwise, Statements, no_statements, ◌▹◌, Arms, no_arms, ◌⊳◌}
 
 -- STRINGs with their places
@@ -20,10 +20,8 @@ abbrev mutual
   in_tree (node place form) = in_form place form
 
   pub in_form : Place → Form → Texts
-  in_form place (Number v) = []
   in_form place (Str text) = (place, Str text) ∷ []
   in_form place (Strings es) = (place, Strings es) ∷ []
-  in_form place Here = []
   in_form place (Var v) = in_variable v
   in_form place (Call trap object i method p args) = in_index i ++ in_trees args
   in_form place (Unary operator e) = in_tree e
@@ -32,9 +30,9 @@ abbrev mutual
   in_form place (Change v effect) = in_variable v
   in_form place (Address v) = in_variable v
   in_form place (ObjectAddress e) = in_tree e
-  in_form place (ObjConst object name p) = []
   in_form place (Built code args) = in_trees args
   in_form place (Look code e xs) = in_tree e ++ in_items xs
+  in_form place _ = []
 
   pub in_variable : Variable → Texts
   in_variable (Named name i place) = in_index i
@@ -92,10 +90,9 @@ abbrev mutual
   in_action (If arms rest) = in_arms arms ++ in_otherwise rest
   in_action (Case e arms rest) = in_tree e ++ (in_arms arms ++ in_otherwise rest)
   in_action (Repeat course body) = before_body course ++ (strings_in body ++ behind_body course)
-  in_action Next = []
-  in_action Quit = []
   in_action (Return e) = in_option e
   in_action (Abort e) = in_option e
+  in_action _ = []
 
   pub in_arm : Arm → Texts
   in_arm (arm tests negated body) = in_items tests ++ strings_in body

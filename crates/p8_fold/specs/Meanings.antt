@@ -35,8 +35,7 @@ meaning_of s name = if bytes_eq name result_word then Some meaning_case.Other el
 abbrev pub value_of_meaning : Meaning → Option ℕ
 value_of_meaning (meaning_case.Value v) = Some v
 value_of_meaning (meaning_case.Label cog offset) = Some cog
-value_of_meaning meaning_case.Object = None
-value_of_meaning meaning_case.Other = None
+value_of_meaning _ = None
 
 -- the value of `@` before a name: a label's offset in its object
 abbrev pub address_of_meaning : Meaning → Option ℕ

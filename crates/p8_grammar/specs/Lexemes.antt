@@ -19,35 +19,25 @@ is_value in_action = false
 is_value _ = true
 
 abbrev pub allows_index : Setting → Bool
-allows_index in_method = true
-allows_index in_declaration = true
-allows_index in_dat = true
 allows_index in_data_item = false
-allows_index in_action = true
+allows_index _ = true
 
 -- `$`, local labels and all registers stand in DAT alone
 abbrev pub is_dat : Setting → Bool
-is_dat in_method = false
-is_dat in_declaration = false
 is_dat in_dat = true
 is_dat in_data_item = true
-is_dat in_action = false
+is_dat _ = false
 
 -- the setting inside parentheses and brackets
 abbrev pub inside : Setting → Setting
-inside in_method = in_method
-inside in_declaration = in_declaration
-inside in_dat = in_dat
 inside in_data_item = in_dat
 inside in_action = in_method
+inside s = s
 
 -- the setting of what is assigned
 abbrev pub behind : Setting → Setting
-behind in_method = in_method
-behind in_declaration = in_declaration
-behind in_dat = in_dat
-behind in_data_item = in_data_item
 behind in_action = in_method
+behind s = s
 
 -- What may be done with a variable: those of main memory are read and written and have an address;
 -- OUTA and DIRA are read and written, whole or by bits; INA is read, whole or by bits; PAR and CNT
