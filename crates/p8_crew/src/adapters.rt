@@ -29,7 +29,9 @@ pub struct ThreadStarter {
 
 impl ThreadStarter {
     /// A starter that has refused nothing.
-    pub fn new() -> ThreadStarter {
+    pub fn new() -> ThreadStarter
+        ensures { result.refused ≡ 0 }
+    {
         ThreadStarter { refused: 0 }
     }
 }
