@@ -8,12 +8,12 @@ use Rattle.p8_bytecode.specs.declared.operands.Operands.{Operands}
 use Rattle.p8_bytecode.specs.declared.operands.Operands.TheVariants.{Nothing, Offset, ShortVariable}
 use Rattle.p8_bytecode.specs.Table.{rows, in_rows, is_within, operands_of, is_effect, is_step}
 use Rattle.p8_bytecode.specs.Reading.{bare, sign_extended, jump_in, coded, changes_variable}
-use Rattle.p8_bcog.specs.declared.state.State.{State}
+use Rattle.p8_bcog.specs.declared.state.SpinState.{SpinState}
 use Rattle.p8_bcog.specs.Operands.{tested, pushed}
 use Rattle.p8_access.specs.declared.kinds.Width.TheVariants.{Long}
 use Rattle.p8_words.specs.Operators.{is_unary}
-use Rattle.p8_bcog.specs.declared.place.Place.{Place}
-use Rattle.p8_bcog.specs.declared.place.Place.TheVariants.{Memory}
+use Rattle.p8_bcog.specs.declared.variable_place.VariablePlace.{VariablePlace}
+use Rattle.p8_bcog.specs.declared.variable_place.VariablePlace.TheVariants.{Memory}
 use Rattle.p8_bcog.specs.Changes.{pushes, pops, changes_alone, is_binary_effect, changes}
 use Rattle.p8_bcog.specs.Variables.{acts, short_address, short_variable}
 use Rattle.p8_bcog.specs.Control.{jump, loop_begins, loop_ends, jump_if_zero, jump_unless_zero}
@@ -47,16 +47,16 @@ inside first last n least most = grind (arith, nat_tests)
 abbrev further : (at : ℕ) → Option (Op × ℕ) → Option (Op × ℕ)
 further at read = option_map (λ (r : Op × ℕ). (r.0, at + r.1)) (option_map (λ (r : Op × ℕ). (r.0, 1 + r.1)) read)
 
-found-quick : (bytes : List ℕ) (s : State) (op : Op) (next : ℕ) (course : Course State) → found_at bytes s.at ≡ Some (op, next) → is_slow op ≡ false → ((memory : List ℕ) (cog : ℕ) → row memory cog op (record s { at = next }) ≡ course) → IsQuick bytes s course
+found-quick : (bytes : List ℕ) (s : SpinState) (op : Op) (next : ℕ) (course : Course SpinState) → found_at bytes s.at ≡ Some (op, next) → is_slow op ≡ false → ((memory : List ℕ) (cog : ℕ) → row memory cog op (record s { at = next }) ≡ course) → IsQuick bytes s course
 found-quick bytes s op next course found fast does = λ memory cog. (
   ap (λ (f : Option (Op × ℕ)). does_found memory cog f s) found ∙ does memory cog,
   ap clocks_of found ∙ if-no (is_slow op) 544 32 fast,
 )
 
 -- where the code's parts are known by equations
-pub quick-by : (byte code operand value wanted size : ℕ) (rest : List ℕ) (s at : State) (f : ℕ → State → Course State) (course : Course State) → byte ≡ code → at ≡ passed size s → value ≡ wanted → course ≡ f value at → IsQuick (code ∷ operand ∷ rest) s (f wanted (passed size s)) → IsQuick (byte ∷ operand ∷ rest) s course
+pub quick-by : (byte code operand value wanted size : ℕ) (rest : List ℕ) (s at : SpinState) (f : ℕ → SpinState → Course SpinState) (course : Course SpinState) → byte ≡ code → at ≡ passed size s → value ≡ wanted → course ≡ f value at → IsQuick (code ∷ operand ∷ rest) s (f wanted (passed size s)) → IsQuick (byte ∷ operand ∷ rest) s course
 quick-by byte code operand value wanted size rest s at f course is goes same comes quick =
-    subst (λ (c : Course State). IsQuick (byte ∷ operand ∷ rest) s c)
+    subst (λ (c : Course SpinState). IsQuick (byte ∷ operand ∷ rest) s c)
     (ap (λ (v : ℕ). f v (passed size s)) (sym same) ∙ ap (f value) (sym goes) ∙ sym comes)
     (subst (λ (b : ℕ). IsQuick (b ∷ operand ∷ rest) s (f wanted (passed size s))) (sym is) quick)
 
@@ -75,50 +75,50 @@ found-jump code high low at rest jumps =
     ap (λ (o : Option Operands). further at (coded o code (high ∷ low ∷ rest))) jumps
     ∙ found-by code high low at (nat_lt high 128)
 
-pub quick-jump : (high low : ℕ) (rest : List ℕ) (s : State) → IsQuick (0x04 ∷ high ∷ low ∷ rest) s (jump (offset_of high low) (passed (jump_size high) s))
+pub quick-jump : (high low : ℕ) (rest : List ℕ) (s : SpinState) → IsQuick (0x04 ∷ high ∷ low ∷ rest) s (jump (offset_of high low) (passed (jump_size high) s))
 unfolding rows row call_row
 quick-jump high low rest s = found-quick (0x04 ∷ high ∷ low ∷ rest) s _ _ _ (found-jump 0x04 high low s.at rest refl) refl (λ memory cog. refl)
 
-pub quick-loop-begins : (high low : ℕ) (rest : List ℕ) (s : State) → IsQuick (0x08 ∷ high ∷ low ∷ rest) s (loop_begins (offset_of high low) (passed (jump_size high) s))
+pub quick-loop-begins : (high low : ℕ) (rest : List ℕ) (s : SpinState) → IsQuick (0x08 ∷ high ∷ low ∷ rest) s (loop_begins (offset_of high low) (passed (jump_size high) s))
 unfolding rows row test_row
 quick-loop-begins high low rest s = found-quick (0x08 ∷ high ∷ low ∷ rest) s _ _ _ (found-jump 0x08 high low s.at rest refl) refl (λ memory cog. refl)
 
-pub quick-loop-ends : (high low : ℕ) (rest : List ℕ) (s : State) → IsQuick (0x09 ∷ high ∷ low ∷ rest) s (loop_ends (offset_of high low) (passed (jump_size high) s))
+pub quick-loop-ends : (high low : ℕ) (rest : List ℕ) (s : SpinState) → IsQuick (0x09 ∷ high ∷ low ∷ rest) s (loop_ends (offset_of high low) (passed (jump_size high) s))
 unfolding rows row test_row
 quick-loop-ends high low rest s = found-quick (0x09 ∷ high ∷ low ∷ rest) s _ _ _ (found-jump 0x09 high low s.at rest refl) refl (λ memory cog. refl)
 
-pub quick-jump-if-zero : (high low : ℕ) (rest : List ℕ) (s : State) → IsQuick (0x0A ∷ high ∷ low ∷ rest) s (jump_if_zero (offset_of high low) (passed (jump_size high) s))
+pub quick-jump-if-zero : (high low : ℕ) (rest : List ℕ) (s : SpinState) → IsQuick (0x0A ∷ high ∷ low ∷ rest) s (jump_if_zero (offset_of high low) (passed (jump_size high) s))
 unfolding rows row test_row
 quick-jump-if-zero high low rest s = found-quick (0x0A ∷ high ∷ low ∷ rest) s _ _ _ (found-jump 0x0A high low s.at rest refl) refl (λ memory cog. refl)
 
-pub quick-jump-unless-zero : (high low : ℕ) (rest : List ℕ) (s : State) → IsQuick (0x0B ∷ high ∷ low ∷ rest) s (jump_unless_zero (offset_of high low) (passed (jump_size high) s))
+pub quick-jump-unless-zero : (high low : ℕ) (rest : List ℕ) (s : SpinState) → IsQuick (0x0B ∷ high ∷ low ∷ rest) s (jump_unless_zero (offset_of high low) (passed (jump_size high) s))
 unfolding rows row test_row
 quick-jump-unless-zero high low rest s = found-quick (0x0B ∷ high ∷ low ∷ rest) s _ _ _ (found-jump 0x0B high low s.at rest refl) refl (λ memory cog. refl)
 
 -- ---- constants
 
-abbrev pub leaves : (value : ℕ) → State → Course State
+abbrev pub leaves : (value : ℕ) → SpinState → Course SpinState
 leaves value s = tested 0 1 s (Finish (pushed value s))
 
-pub quick-minus-one : (operand : ℕ) (rest : List ℕ) (s : State) → IsQuick (0x34 ∷ operand ∷ rest) s (leaves (2 ^ 32 - 1) (passed 1 s))
+pub quick-minus-one : (operand : ℕ) (rest : List ℕ) (s : SpinState) → IsQuick (0x34 ∷ operand ∷ rest) s (leaves (2 ^ 32 - 1) (passed 1 s))
 unfolding rows row return_row constant_row
 quick-minus-one operand rest s = λ memory cog. (refl, refl)
 
-pub quick-zero : (operand : ℕ) (rest : List ℕ) (s : State) → IsQuick (0x35 ∷ operand ∷ rest) s (leaves 0 (passed 1 s))
+pub quick-zero : (operand : ℕ) (rest : List ℕ) (s : SpinState) → IsQuick (0x35 ∷ operand ∷ rest) s (leaves 0 (passed 1 s))
 unfolding rows row return_row constant_row
 quick-zero operand rest s = λ memory cog. (refl, refl)
 
-pub quick-one : (operand : ℕ) (rest : List ℕ) (s : State) → IsQuick (0x36 ∷ operand ∷ rest) s (leaves 1 (passed 1 s))
+pub quick-one : (operand : ℕ) (rest : List ℕ) (s : SpinState) → IsQuick (0x36 ∷ operand ∷ rest) s (leaves 1 (passed 1 s))
 unfolding rows row return_row constant_row
 quick-one operand rest s = λ memory cog. (refl, refl)
 
-pub quick-packed : (operand : ℕ) (rest : List ℕ) (s : State) → operand < 128 → IsQuick (0x37 ∷ operand ∷ rest) s (leaves (packed operand) (passed 2 s))
+pub quick-packed : (operand : ℕ) (rest : List ℕ) (s : SpinState) → operand < 128 → IsQuick (0x37 ∷ operand ∷ rest) s (leaves (packed operand) (passed 2 s))
 unfolding rows row return_row constant_row
 quick-packed operand rest s is = found-quick (0x37 ∷ operand ∷ rest) s (record (bare 0x37) { first = operand }) (s.at + 2) _
     (ap (further s.at) (if-yes (nat_lt operand 128) (Some (record (bare 0x37) { first = operand }, 1)) None (less operand 128 is)))
     refl (λ memory cog. refl)
 
-pub quick-byte : (operand : ℕ) (rest : List ℕ) (s : State) → IsQuick (0x38 ∷ operand ∷ rest) s (leaves operand (passed 2 s))
+pub quick-byte : (operand : ℕ) (rest : List ℕ) (s : SpinState) → IsQuick (0x38 ∷ operand ∷ rest) s (leaves operand (passed 2 s))
 unfolding rows row return_row constant_row
 quick-byte operand rest s = λ memory cog. (refl, refl)
 
@@ -142,7 +142,7 @@ operator-alone : (k : ℕ) → 0xE0 ≤ k → k ≤ 0xFF → operands_of k ≡ S
 unfolding rows from-row
 operator-alone k least most = skips 0xE0 k rows least ∙ if-yes (is_within 0xE0 0xFF k) _ _ (inside 0xE0 0xFF k least most)
 
-operator-row : (k : ℕ) (memory : List ℕ) (cog : ℕ) (s : State) → 0xE0 ≤ k → row memory cog (bare k) s ≡ operator_row (bare k) s
+operator-row : (k : ℕ) (memory : List ℕ) (cog : ℕ) (s : SpinState) → 0xE0 ≤ k → row memory cog (bare k) s ≡ operator_row (bare k) s
 unfolding row
 operator-row k memory cog s least =
     if-no (nat_lt k 0x08) _ _ (not-less k 0x08 (omega (arith, least)))
@@ -163,7 +163,7 @@ fast-not-slow k is = if-no (nat_lt k 0xE0) _ _ (not-less k 0xE0 (fast-least k is
     between : (k : ℕ) → is_fast_operator k ≡ true → (nat_le 0xF4 k && nat_le k 0xF8) ≡ false
     between k is = grind (arith, nat_tests)
 
-pub quick-operator : (k operand : ℕ) (rest : List ℕ) (s at : State) (course : Course State) → is_fast_operator k ≡ true → k ≤ 0xFF → at ≡ passed 1 s → course ≡ operator_row (bare k) at → IsQuick (k ∷ operand ∷ rest) s course
+pub quick-operator : (k operand : ℕ) (rest : List ℕ) (s at : SpinState) (course : Course SpinState) → is_fast_operator k ≡ true → k ≤ 0xFF → at ≡ passed 1 s → course ≡ operator_row (bare k) at → IsQuick (k ∷ operand ∷ rest) s course
 quick-operator k operand rest s at course fast most goes comes = found-quick (k ∷ operand ∷ rest) s (bare k) (s.at + 1) course
     (ap (λ (o : Option Operands). further s.at (coded o k (operand ∷ rest))) (operator-alone k (fast-least k fast) most))
     (fast-not-slow k fast)
@@ -175,7 +175,7 @@ variable-alone : (k : ℕ) → 0x40 ≤ k → k < 0x80 → operands_of k ≡ Som
 unfolding rows from-row
 variable-alone k least most = skips 0x40 k rows least ∙ if-yes (is_within 0x40 0x7F k) _ _ (inside 0x40 0x7F k least (omega (arith, most)))
 
-variable-row : (op : Op) (memory : List ℕ) (cog : ℕ) (s : State) → 0x40 ≤ op.code → op.code < 0x80 → row memory cog op s ≡ short_variable op s
+variable-row : (op : Op) (memory : List ℕ) (cog : ℕ) (s : SpinState) → 0x40 ≤ op.code → op.code < 0x80 → row memory cog op s ≡ short_variable op s
 unfolding row
 variable-row op memory cog s least most =
     if-no (nat_lt op.code 0x08) _ _ (not-less op.code 0x08 (omega (arith, least)))
@@ -195,7 +195,7 @@ long-range k is = (least k is, most k is)
     most : (k : ℕ) → names_long k ≡ true → k < 0x80
     most k is = grind (arith, nat_tests)
 
-variable-quick : (k operand effect size : ℕ) (rest : List ℕ) (s : State) (course : Course State) → names_long k ≡ true → coded (Some ShortVariable) k (operand ∷ rest) ≡ Some (record (bare k) { effect = effect }, size) → (nat_le 0x54 (effect % 128) && nat_le (effect % 128) 0x58) ≡ false → short_variable (record (bare k) { effect = effect }) (passed (1 + size) s) ≡ course → IsQuick (k ∷ operand ∷ rest) s course
+variable-quick : (k operand effect size : ℕ) (rest : List ℕ) (s : SpinState) (course : Course SpinState) → names_long k ≡ true → coded (Some ShortVariable) k (operand ∷ rest) ≡ Some (record (bare k) { effect = effect }, size) → (nat_le 0x54 (effect % 128) && nat_le (effect % 128) 0x58) ≡ false → short_variable (record (bare k) { effect = effect }) (passed (1 + size) s) ≡ course → IsQuick (k ∷ operand ∷ rest) s course
 variable-quick k operand effect size rest s course is read fast comes =
     let r = long-range k is in
     found-quick (k ∷ operand ∷ rest) s (record (bare k) { effect = effect }) (s.at + (1 + size)) course
@@ -203,10 +203,10 @@ variable-quick k operand effect size rest s course is read fast comes =
     (if-yes (nat_lt k 0xE0) _ _ (less k 0xE0 (omega (arith, r.1))) ∙ fast)
     (λ memory cog. variable-row (record (bare k) { effect = effect }) memory cog (passed (1 + size) s) r.0 r.1 ∙ comes)
 
-abbrev pub long_of : (code : ℕ) → State → Place
+abbrev pub long_of : (code : ℕ) → SpinState → VariablePlace
 long_of code s = Memory Long (short_address code s)
 
-pub quick-push : (k operand : ℕ) (rest : List ℕ) (s at : State) (course : Course State) → names_long k ≡ true → k % 4 ≡ 0 → at ≡ passed 1 s → course ≡ pushes 0 (long_of k s) at → IsQuick (k ∷ operand ∷ rest) s course
+pub quick-push : (k operand : ℕ) (rest : List ℕ) (s at : SpinState) (course : Course SpinState) → names_long k ≡ true → k % 4 ≡ 0 → at ≡ passed 1 s → course ≡ pushes 0 (long_of k s) at → IsQuick (k ∷ operand ∷ rest) s course
 unfolding short_variable acts
 quick-push k operand rest s at course is action goes comes =
     variable-quick k operand 0 0 rest s course is
@@ -214,7 +214,7 @@ quick-push k operand rest s at course is action goes comes =
     refl
     (if-yes (k % 4 == 0) _ _ (ap (λ (a : ℕ). a == 0) action) ∙ ap (pushes 0 (long_of k s)) (sym goes) ∙ sym comes)
 
-pub quick-pop : (k operand : ℕ) (rest : List ℕ) (s at : State) (course : Course State) → names_long k ≡ true → k % 4 ≡ 1 → at ≡ passed 1 s → course ≡ pops 0 (long_of k s) at → IsQuick (k ∷ operand ∷ rest) s course
+pub quick-pop : (k operand : ℕ) (rest : List ℕ) (s at : SpinState) (course : Course SpinState) → names_long k ≡ true → k % 4 ≡ 1 → at ≡ passed 1 s → course ≡ pops 0 (long_of k s) at → IsQuick (k ∷ operand ∷ rest) s course
 unfolding short_variable acts
 quick-pop k operand rest s at course is action goes comes =
     variable-quick k operand 0 0 rest s course is
@@ -240,7 +240,7 @@ no-step e least = grind (arith, nat_tests)
 is-change : (e : ℕ) → 0x20 ≤ e % 128 → e % 128 < 0x40 → is_effect e ≡ true
 is-change e least most = grind (arith, nat_tests)
 
-changes-alone : (op : Op) (place : Place) (s : State) → 0x20 ≤ op.effect % 128 → op.effect % 128 < 0x40 → changes 0 op place s ≡ changes_alone 0 op.effect place s
+changes-alone : (op : Op) (place : VariablePlace) (s : SpinState) → 0x20 ≤ op.effect % 128 → op.effect % 128 < 0x40 → changes 0 op place s ≡ changes_alone 0 op.effect place s
 unfolding changes
 changes-alone op place s least most =
     if-no (op.effect % 128 == 0x00) _ _ (differs (op.effect % 128) 0x00 (λ is. omega (arith, is, least)))
@@ -256,7 +256,7 @@ changes-alone op place s least most =
         no-more : (e : ℕ) → e < 0x40 → nat_le 0x40 e ≡ false
         no-more e most = grind (arith, nat_tests)
 
-pub quick-count : (k operand : ℕ) (rest : List ℕ) (s at : State) (course : Course State) → names_long k ≡ true → k % 4 ≡ 2 → counts operand ≡ true → at ≡ passed 2 s → course ≡ changes_alone 0 operand (long_of k s) at → IsQuick (k ∷ operand ∷ rest) s course
+pub quick-count : (k operand : ℕ) (rest : List ℕ) (s at : SpinState) (course : Course SpinState) → names_long k ≡ true → k % 4 ≡ 2 → counts operand ≡ true → at ≡ passed 2 s → course ≡ changes_alone 0 operand (long_of k s) at → IsQuick (k ∷ operand ∷ rest) s course
 unfolding short_variable acts
 quick-count k operand rest s at course is action counted goes comes =
     let r = counting operand counted in
@@ -287,7 +287,7 @@ three-bytes code at byte operand low within first second third =
     ∙ ap (λ (b : ℕ). byte ∷ operand ∷ b ∷ drop (at + 1 + 1 + 1) code) (ap (λ (k : ℕ). slice_index code k) next ∙ sym third)
 
 -- what is quick by all bytes from where the cog is
-reads : (code : List ℕ) (s : State) (at : ℕ) (course : Course State) → at ≡ s.at → 16 ≤ at → IsQuick (drop at code) s course → (memory : List ℕ) (cog : ℕ) → code ≡ code_of memory → (course ≡ bytecode memory cog s) × (clocks memory s ≡ 32)
+reads : (code : List ℕ) (s : SpinState) (at : ℕ) (course : Course SpinState) → at ≡ s.at → 16 ≤ at → IsQuick (drop at code) s course → (memory : List ℕ) (cog : ℕ) → code ≡ code_of memory → (course ≡ bytecode memory cog s) × (clocks memory s ≡ 32)
 reads code s at course is least quick memory cog of =
     let found : fetched memory s.at ≡ found_at (drop at code) s.at =
     if-no (nat_lt s.at 16) None (found_at (drop s.at (code_of memory)) s.at) (not-less s.at 16 (omega (arith, least, is)))
@@ -296,13 +296,13 @@ reads code s at course is least quick memory cog of =
     let does = quick memory cog in
     (sym (ap (λ (f : Option (Op × ℕ)). does_found memory cog f s) found ∙ does.0), ap clocks_of found ∙ does.1)
 
-pub reads-two : {R : Type 0} (course : R → Course State) (code : List ℕ) (s new : State) (at byte operand : ℕ) (r : Option R) → at ≡ s.at → 16 ≤ at → at + 1 < length code → byte ≡ slice_index code at → operand ≡ slice_index code (at + 1) → MatchOption r (new ≡ s) (λ x. (rest : List ℕ) → IsQuick (byte ∷ operand ∷ rest) s (course x)) → MatchOption r (new ≡ s) (λ x. (memory : List ℕ) (cog : ℕ) → code ≡ code_of memory → (course x ≡ bytecode memory cog s) × (clocks memory s ≡ 32))
+pub reads-two : {R : Type 0} (course : R → Course SpinState) (code : List ℕ) (s new : SpinState) (at byte operand : ℕ) (r : Option R) → at ≡ s.at → 16 ≤ at → at + 1 < length code → byte ≡ slice_index code at → operand ≡ slice_index code (at + 1) → MatchOption r (new ≡ s) (λ x. (rest : List ℕ) → IsQuick (byte ∷ operand ∷ rest) s (course x)) → MatchOption r (new ≡ s) (λ x. (memory : List ℕ) (cog : ℕ) → code ≡ code_of memory → (course x ≡ bytecode memory cog s) × (clocks memory s ≡ 32))
 reads-two course code s new at byte operand None is least within first second same = same
 reads-two course code s new at byte operand (Some x) is least within first second quick =
     reads code s at (course x) is least
     (subst (λ (bytes : List ℕ). IsQuick bytes s (course x)) (sym (two-bytes code at byte operand within first second)) (quick (drop (at + 1 + 1) code)))
 
-pub reads-three : {R : Type 0} (course : R → Course State) (code : List ℕ) (s new : State) (at byte operand low : ℕ) (r : Option R) → at ≡ s.at → 16 ≤ at → at + 2 < length code → byte ≡ slice_index code at → operand ≡ slice_index code (at + 1) → low ≡ slice_index code (at + 2) → MatchOption r (new ≡ s) (λ x. (rest : List ℕ) → IsQuick (byte ∷ operand ∷ low ∷ rest) s (course x)) → MatchOption r (new ≡ s) (λ x. (memory : List ℕ) (cog : ℕ) → code ≡ code_of memory → (course x ≡ bytecode memory cog s) × (clocks memory s ≡ 32))
+pub reads-three : {R : Type 0} (course : R → Course SpinState) (code : List ℕ) (s new : SpinState) (at byte operand low : ℕ) (r : Option R) → at ≡ s.at → 16 ≤ at → at + 2 < length code → byte ≡ slice_index code at → operand ≡ slice_index code (at + 1) → low ≡ slice_index code (at + 2) → MatchOption r (new ≡ s) (λ x. (rest : List ℕ) → IsQuick (byte ∷ operand ∷ low ∷ rest) s (course x)) → MatchOption r (new ≡ s) (λ x. (memory : List ℕ) (cog : ℕ) → code ≡ code_of memory → (course x ≡ bytecode memory cog s) × (clocks memory s ≡ 32))
 reads-three course code s new at byte operand low None is least within first second third same = same
 reads-three course code s new at byte operand low (Some x) is least within first second third quick =
     reads code s at (course x) is least

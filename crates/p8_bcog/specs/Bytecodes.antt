@@ -9,7 +9,7 @@ use Rattle.p8_access.specs.declared.kinds.Access.TheVariants.{CogStop, LockNew, 
 use Rattle.p8_words.specs.Words.{rotated_left}
 use Rattle.p8_access.specs.Courses.{Course, Finish, Stop}
 use Rattle.p8_bytecode.specs.declared.op.Op.{Op}
-use Rattle.p8_bcog.specs.declared.state.State.{State}
+use Rattle.p8_bcog.specs.declared.state.SpinState.{SpinState}
 use Rattle.p8_bcog.specs.Code.{fetched}
 use Rattle.p8_bcog.specs.Operands.{operand, pushed, replaced, tested, difference}
 use Rattle.p8_words.specs.Operators.{is_unary, unary_value, binary_value}
@@ -21,7 +21,7 @@ use Rattle.p8_bcog.specs.Moves.{fill, move_elements, text_size, text_compare}
 use Rattle.p8_bcog.specs.Cogs.{tells, asks_word, start_method, pasm_start, waits_for_pins}
 
 -- 00 to 07
-unfoldable pub call_row : (memory : List ℕ) → Op → State → Course State
+unfoldable pub call_row : (memory : List ℕ) → Op → SpinState → Course SpinState
 call_row memory op s =
     if nat_lt op.code 0x04 then opens op.code s
     else if op.code == 0x04 then jump op.first s
@@ -30,7 +30,7 @@ call_row memory op s =
     else call_indexed memory op.first op.second op.third s
 
 -- 08 to 0F
-unfoldable pub test_row : Op → State → Course State
+unfoldable pub test_row : Op → SpinState → Course SpinState
 test_row op s =
     if op.code == 0x08 then loop_begins op.first s
     else if op.code == 0x09 then loop_ends op.first s
@@ -42,7 +42,7 @@ test_row op s =
     else look_fails s
 
 -- 10 to 15
-unfoldable pub look_row : (memory : List ℕ) → Op → State → Course State
+unfoldable pub look_row : (memory : List ℕ) → Op → SpinState → Course SpinState
 look_row memory op s =
     if op.code == 0x10 then lookup_value op.first s
     else if op.code == 0x11 then lookdown_value op.first s
@@ -52,13 +52,13 @@ look_row memory op s =
     else start_method memory op.first op.second s
 
 -- 1B, 1F ( state mask port -- ) WAITPEQ, WAITPNE
-unfoldable pub wait_row : (equal : Bool) → State → Course State
+unfoldable pub wait_row : (equal : Bool) → SpinState → Course SpinState
 wait_row equal s =
     if equal then waits_for_pins (PinsEqual (operand s 2) (operand s 1)) s
     else waits_for_pins (PinsDiffer (operand s 2) (operand s 1)) s
 
 -- 16 to 1F
-unfoldable pub move_row : Op → State → Course State
+unfoldable pub move_row : Op → SpinState → Course SpinState
 move_row op s =
     if op.code == 0x16 then text_size s
     else if op.code == 0x17 then text_compare s
@@ -73,7 +73,7 @@ move_row op s =
 
 -- 21 to 2F: ( id -- ) COGSTOP and LOCKRET, ( t -- ) WAITCNT; COGINIT of PASM; and LOCKNEW, LOCKSET and LOCKCLR,
 -- each with its word left, and 4 more without
-unfoldable pub cog_row : Op → State → Course State
+unfoldable pub cog_row : Op → SpinState → Course SpinState
 cog_row op s =
     if op.code == 0x21 then tells 1 (CogStop (operand s 0 % 8)) s
     else if op.code == 0x22 then tells 1 (LockRet (operand s 0 % 8)) s
@@ -106,11 +106,11 @@ constant op =
     else if op.code == 0x37 then packed op.first
     else op.first
 
-unfoldable pub constant_row : Op → State → Course State
+unfoldable pub constant_row : Op → SpinState → Course SpinState
 constant_row op s = tested 0 1 s (Finish (pushed (constant op) s))
 
 -- 30 to 3F
-unfoldable pub return_row : (cog : ℕ) → Op → State → Course State
+unfoldable pub return_row : (cog : ℕ) → Op → SpinState → Course SpinState
 return_row cog op s =
     if op.code == 0x30 then abort_result cog s
     else if op.code == 0x31 then abort_value cog s
@@ -122,12 +122,12 @@ return_row cog op s =
     else whole_register op s
 
 -- E0 to FF ( a -- x ) or ( a b -- x )
-unfoldable pub operator_row : Op → State → Course State
+unfoldable pub operator_row : Op → SpinState → Course SpinState
 operator_row op s =
     if is_unary op.code then tested 1 1 s (Finish (replaced 1 (unary_value op.code (operand s 0)) s))
     else tested 2 1 s (Finish (replaced 2 (binary_value op.code (operand s 1) (operand s 0)) s))
 
-unfoldable pub row : (memory : List ℕ) (cog : ℕ) → Op → State → Course State
+unfoldable pub row : (memory : List ℕ) (cog : ℕ) → Op → SpinState → Course SpinState
 row memory cog op s =
     if nat_lt op.code 0x08 then call_row memory op s
     else if nat_lt op.code 0x10 then test_row op s
@@ -141,12 +141,12 @@ row memory cog op s =
 
 -- ---- a bytecode
 
-abbrev pub does_found : (memory : List ℕ) (cog : ℕ) → Option (Op × ℕ) → State → Course State
+abbrev pub does_found : (memory : List ℕ) (cog : ℕ) → Option (Op × ℕ) → SpinState → Course SpinState
 does_found memory cog None s = Stop (Why.Byte s.at)
 does_found memory cog (Some found) s = row memory cog found.0 (record s { at = found.1 })
 
 -- the bytecode that stands where the cog is; where none stands there whole, the cog halts with that address
-abbrev pub bytecode : (memory : List ℕ) (cog : ℕ) → State → Course State
+abbrev pub bytecode : (memory : List ℕ) (cog : ℕ) → SpinState → Course SpinState
 bytecode memory cog s = does_found memory cog (fetched memory s.at) s
 
 -- the operators `*`, `**`, `/`, `//` and `^^`, also as effects, take 544 clocks, and all others 32
@@ -158,5 +158,5 @@ clocks_of None = 32
 clocks_of (Some found) = if is_slow found.0 then 544 else 32
 
 -- the clocks from the begin of a bytecode up to where its first access counts
-abbrev pub clocks : (memory : List ℕ) → State → ℕ
+abbrev pub clocks : (memory : List ℕ) → SpinState → ℕ
 clocks memory s = clocks_of (fetched memory s.at)

@@ -9,7 +9,7 @@ use Rattle.p8_access.specs.declared.kinds.Access.TheVariants.{CogInit, Wait}
 use Rattle.p8_access.specs.Courses.{Course, Stop}
 use Rattle.p8_bcog.specs.declared.step.Callee.{Callee}
 use Rattle.p8_bcog.specs.declared.step.Given.TheVariants.{Started}
-use Rattle.p8_bcog.specs.declared.state.State.{State}
+use Rattle.p8_bcog.specs.declared.state.SpinState.{SpinState}
 use Rattle.p8_bcog.specs.Code.{is_method, method_at}
 use Rattle.p8_bcog.specs.Operands.{operand, taken, tested}
 use Rattle.p8_bcog.specs.Accesses.{ends, gets}
@@ -17,11 +17,11 @@ use Rattle.p8_bcog.specs.Calls.{gives}
 pub use Rattle.p8_access.specs.Addresses.{long_address, cog_named as target_of}
 
 -- an access that leaves nothing, and takes so many operands
-unfoldable pub tells : (takes : ℕ) → Access → State → Course State
+unfoldable pub tells : (takes : ℕ) → Access → SpinState → Course SpinState
 tells takes access s = tested takes 0 s (ends access None (taken takes s))
 
 -- an access whose word is left
-unfoldable pub asks_word : (takes : ℕ) → Access → State → Course State
+unfoldable pub asks_word : (takes : ℕ) → Access → SpinState → Course SpinState
 asks_word takes access s = tested takes 1 s (gets access (taken takes s))
 
 -- 15 m k ( id a1 to ak s -- c ) the k arguments are written at s + 4 and on, and a cog is started with the method m
@@ -30,7 +30,7 @@ abbrev pub spin_origin : Callee → (count frame : ℕ) → Origin
 spin_origin callee count frame =
     Spin callee.entry callee.pbase callee.vbase (long_address frame) ((4 * count + callee.locals) % 2 ^ 16)
 
-unfoldable pub start_method : (memory : List ℕ) (m count : ℕ) → State → Course State
+unfoldable pub start_method : (memory : List ℕ) (m count : ℕ) → SpinState → Course SpinState
 start_method memory m count s =
     tested (count + 2) 1 s
     (if not (is_method memory s.pbase m) then Stop Why.Table
@@ -40,12 +40,12 @@ start_method memory m count s =
     s)
 
 -- 28 ( id code par -- c ) start of PASM; 2C leaves nothing
-abbrev pub pasm_start : State → Access
+abbrev pub pasm_start : SpinState → Access
 pasm_start s =
     CogInit (target_of (operand s 2)) (Pasm (long_address (operand s 1)) (long_address (operand s 0)))
 
 -- 1B, 1F ( state mask port -- ) waits for pins; there is no other port than 0
-unfoldable pub waits_for_pins : Test → State → Course State
+unfoldable pub waits_for_pins : Test → SpinState → Course SpinState
 waits_for_pins test s =
     tested 3 0 s
     (if operand s 0 == 0 then ends (Wait test) None (taken 3 s) else Stop Why.Port)

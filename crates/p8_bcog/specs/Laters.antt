@@ -9,7 +9,7 @@ use Rattle.p8_bcog.specs.declared.step.Later.{Later}
 use Rattle.p8_bcog.specs.declared.step.Later.TheVariants.{Left, Push, Value, Arguments, Counted, Compared, ComparedWith, Filled, Fetched, Moved}
 use Rattle.p8_bcog.specs.declared.step.Step.{Step}
 use Rattle.p8_bcog.specs.declared.step.Step.TheVariants.{Done, Asking}
-use Rattle.p8_bcog.specs.declared.state.State.{State}
+use Rattle.p8_bcog.specs.declared.state.SpinState.{SpinState}
 use Rattle.p8_bcog.specs.Operands.{pushed, left_by}
 use Rattle.p8_bcog.specs.Accesses.{word_in, ends, gets, read_of, is_readable, rom_halt, write_of, next_address}
 use Rattle.p8_bcog.specs.Places.{uses, value_in, asks_for}
@@ -17,11 +17,11 @@ use Rattle.p8_bcog.specs.Calls.{gives}
 use Rattle.p8_bcog.specs.Moves.{fills, moves, counts, compares, room_from}
 
 -- a write of an element, after which a move goes on
-unfoldable pub stores : Access → (later : Course State) → Course State
+unfoldable pub stores : Access → (later : Course SpinState) → Course SpinState
 stores access later = Ask access (λ answer. later)
 
 -- what follows by the word of an answer
-abbrev pub later_on : Later → State → (word : ℕ) → Course State
+abbrev pub later_on : Later → SpinState → (word : ℕ) → Course SpinState
 later_on (Left value) s word = Finish (left_by value s)
 later_on Push s word = Finish (pushed word s)
 later_on (Value place wanted) s word = uses wanted place (value_in place word) s
@@ -45,10 +45,10 @@ later_on (Fetched width to from left) s word =
 later_on (Moved width to from left) s word = moves width to from left s
 
 -- an access, and what follows
-unfoldable pub then_on : Access → Later → State → Course State
+unfoldable pub then_on : Access → Later → SpinState → Course SpinState
 then_on access later s = Ask access (λ answer. later_on later s (word_in answer))
 
-abbrev pub asking : Access → Later → State → Course State
+abbrev pub asking : Access → Later → SpinState → Course SpinState
 asking access (Left value) s = ends access value s
 asking access Push s = gets access s
 asking access (Value place wanted) s = asks_for access wanted place s
@@ -61,21 +61,21 @@ asking access (Fetched width to from left) s = then_on access (Fetched width to 
 asking access (Moved width to from left) s = then_on access (Moved width to from left) s
 
 -- a read of memory, or a halt where it would be of ROM
-abbrev pub reading : Width → (address : ℕ) → Later → State → Course State
+abbrev pub reading : Width → (address : ℕ) → Later → SpinState → Course SpinState
 reading width address later s =
     if is_readable width address then asking (read_of width address) later s else rom_halt width address
 
 -- the course that is still to come
-abbrev pub course_of : Step → State → Course State
+abbrev pub course_of : Step → SpinState → Course SpinState
 course_of Done s = Finish s
 course_of (Asking access later) s = asking access later s
 
 -- an error is a halt
-abbrev pub comes : Result Step Reason → State → Course State
+abbrev pub comes : Result Step Reason → SpinState → Course SpinState
 comes (Ok step) s = course_of step s
 comes (Err reason) s = Stop reason
 
-pub asking-is : (access : Access) (later : Later) (s : State) → asking access later s ≡ Ask access (λ answer. later_on later s (word_in answer))
+pub asking-is : (access : Access) (later : Later) (s : SpinState) → asking access later s ≡ Ask access (λ answer. later_on later s (word_in answer))
 unfolding ends gets asks_for then_on
 asking-is access (Left value) s = refl
 asking-is access Push s = refl

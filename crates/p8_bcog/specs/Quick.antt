@@ -4,16 +4,16 @@ use Rattle.p8_access.specs.declared.kinds.Reason.{Reason}
 use Rattle.p8_access.specs.Courses.{Course, Finish, Stop}
 use Rattle.p8_bytecode.specs.declared.op.Op.{Op}
 use Rattle.p8_bytecode.specs.Reading.{op_in, sign_extended}
-use Rattle.p8_bcog.specs.declared.state.State.{State}
+use Rattle.p8_bcog.specs.declared.state.SpinState.{SpinState}
 use Rattle.p8_bcog.specs.Bytecodes.{does_found, clocks_of}
 
 -- what comes of a bytecode that asks nothing: it is done, or an error halts the cog
-abbrev pub finishes : {A : Type 0} → Result A Reason → State → Course State
+abbrev pub finishes : {A : Type 0} → Result A Reason → SpinState → Course SpinState
 finishes (Ok done) s = Finish s
 finishes (Err reason) s = Stop reason
 
 -- so many bytes further on
-abbrev pub passed : (bytes : ℕ) → State → State
+abbrev pub passed : (bytes : ℕ) → SpinState → SpinState
 passed bytes s = record s { at = s.at + bytes }
 
 -- the bytecode at the head of some bytes that begin at an address, and the address after it
@@ -21,7 +21,7 @@ abbrev pub found_at : (bytes : List ℕ) (at : ℕ) → Option (Op × ℕ)
 found_at bytes at = option_map (λ read. (read.0, at + read.1)) (op_in bytes)
 
 -- the bytecode at the head of these bytes takes 32 clocks, and comes to this whatever the memory and the cog
-abbrev pub IsQuick : (bytes : List ℕ) → State → Course State → Type 0
+abbrev pub IsQuick : (bytes : List ℕ) → SpinState → Course SpinState → Type 0
 IsQuick bytes s course =
     (memory : List ℕ) (cog : ℕ) → (does_found memory cog (found_at bytes s.at) s ≡ course) × (clocks_of (found_at bytes s.at) ≡ 32)
 

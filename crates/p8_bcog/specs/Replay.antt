@@ -11,13 +11,13 @@ use Rattle.p8_access.specs.Lives.{Entered, Begun, PasmBegun, SpinBegun}
 use Rattle.p8_access.specs.Courses.{Course, Told}
 use Rattle.p8_access.specs.Timing.{Outcome, Asks, Goes, Ends}
 use Rattle.p8_access.specs.Replays.{Engine, replayed, retold}
-use Rattle.p8_bcog.specs.declared.state.State.{State}
+use Rattle.p8_bcog.specs.declared.state.SpinState.{SpinState}
 use Rattle.p8_bcog.specs.Accesses.{ends, write_of}
 use Rattle.p8_bcog.specs.Bytecodes.{bytecode, clocks}
 
 -- what stands in the cog where its first bytecode begins: nothing on the stack, no mark and no call, and 0 in its registers
 -- but PAR, which is the frame
-abbrev pub first_with : (entry pbase vbase frame size : ℕ) → State
+abbrev pub first_with : (entry pbase vbase frame size : ℕ) → SpinState
 first_with entry pbase vbase frame size = record {
   at = entry;
   pbase = pbase;
@@ -35,27 +35,27 @@ first_with entry pbase vbase frame size = record {
   par = frame;
 }
 
-abbrev pub first_of : Origin → State
+abbrev pub first_of : Origin → SpinState
 first_of (Spin entry pbase vbase frame size) = first_with entry pbase vbase frame size
 first_of (Pasm code par) = first_with 0 0 0 0 0
 
 -- the entry of a life writes 0 to the frame's result
-abbrev pub enters_at : State → Course State
+abbrev pub enters_at : SpinState → Course SpinState
 enters_at s = ends (write_of Long s.frame 0) None s
 
-abbrev pub entry_of : Entered → Course State
+abbrev pub entry_of : Entered → Course SpinState
 entry_of e = enters_at (first_of e.origin)
 
-abbrev pub engine_of : (memory : List ℕ) (cog : ℕ) → Engine State
+abbrev pub engine_of : (memory : List ℕ) (cog : ℕ) → Engine SpinState
 engine_of memory cog = record { cog = cog; next = bytecode memory cog; cost = clocks memory }
 
 -- so many bytecodes after the entry, with these turns. The entry counts from 8,192 clocks after the turn of
 -- Begin on.
-abbrev pub lived : (count : ℕ) → Entered → List Turn → Outcome State
+abbrev pub lived : (count : ℕ) → Entered → List Turn → Outcome SpinState
 lived count e turns = replayed (engine_of e.memory e.cog) (e.begin + 8192) (entry_of e) count turns
 
 -- the same without clocks, by the answers alone
-abbrev pub retold_life : (count : ℕ) → Entered → List Answer → Told State
+abbrev pub retold_life : (count : ℕ) → Entered → List Answer → Told SpinState
 retold_life count e answers = retold (engine_of e.memory e.cog) (entry_of e) count answers
 
 -- after these turns the life asks this access next, from this clock on
@@ -64,7 +64,7 @@ IsAsked (SpinBegun entered) turns clock access = (count : ℕ) × (lived count e
 IsAsked (PasmBegun loaded) turns clock access = ⊥
 
 -- a bytecode begins at this clock
-abbrev pub BeginsAt : (clock : ℕ) → Outcome State → Type 0
+abbrev pub BeginsAt : (clock : ℕ) → Outcome SpinState → Type 0
 BeginsAt clock (Goes s begin left) = begin ≡ clock
 BeginsAt clock (Asks c access) = ⊥
 BeginsAt clock Ends = ⊥

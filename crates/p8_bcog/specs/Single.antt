@@ -8,17 +8,17 @@ use Rattle.p8_access.specs.declared.kinds.Access.TheVariants.{Begin, Load, Read,
 use Rattle.p8_access.specs.declared.kinds.Access.TheVariants.{ClkSet, PinsIn, OutSet, DirSet, Wait, Clock, Halt}
 use Rattle.p8_access.specs.Lives.{IsMade}
 use Rattle.p8_access.specs.Proper.{IsNumber, IsProperOrigin}
-use Rattle.p8_bcog.specs.declared.place.Place.{Place}
-use Rattle.p8_bcog.specs.declared.place.Place.TheVariants.{Memory, Pins}
+use Rattle.p8_bcog.specs.declared.variable_place.VariablePlace.{VariablePlace}
+use Rattle.p8_bcog.specs.declared.variable_place.VariablePlace.TheVariants.{Memory, Pins}
 use Rattle.p8_bcog.specs.declared.step.Wanted.{Wanted}
 use Rattle.p8_bcog.specs.declared.step.Wanted.TheVariants.{Pushed, Changed, Replaced, Stepped}
 use Rattle.p8_bcog.specs.declared.step.Given.{Given}
 use Rattle.p8_bcog.specs.declared.step.Given.TheVariants.{Called, Started}
 use Rattle.p8_bcog.specs.declared.step.Later.{Later}
 use Rattle.p8_bcog.specs.declared.step.Later.TheVariants.{Left, Push, Value, Arguments, Counted, Compared, ComparedWith, Filled, Fetched, Moved}
-use Rattle.p8_bcog.specs.declared.stage.Stage.{Stage}
-use Rattle.p8_bcog.specs.declared.stage.Stage.TheVariants.{Entering, Ready, Asked, Halted, Over}
-use Rattle.p8_bcog.specs.declared.state.State.{State}
+use Rattle.p8_bcog.specs.declared.stage.SpinStage.{SpinStage}
+use Rattle.p8_bcog.specs.declared.stage.SpinStage.TheVariants.{Entering, Ready, Asked, Halted, Over}
+use Rattle.p8_bcog.specs.declared.state.SpinState.{SpinState}
 use Rattle.p8_bcog.specs.Ready.{IsPlace, HasRoomFor, HasRoomToUse, CanGive, IsReady}
 use Rattle.p8_bcog.specs.Stops.{IsSound}
 
@@ -51,25 +51,25 @@ is_prop-IsMade (Wait test) = hlevel props
 is_prop-IsMade Clock = hlevel props
 is_prop-IsMade (Halt reason) = hlevel props
 
-is_prop-IsPlace : (place : Place) → IsProp (IsPlace place)
+is_prop-IsPlace : (place : VariablePlace) → IsProp (IsPlace place)
 is_prop-IsPlace (Memory width address) = hlevel props
 is_prop-IsPlace (Pins register high low) = hlevel props
 
-is_prop-HasRoomFor : (left : Option ℕ) (s : State) → IsProp (HasRoomFor left s)
+is_prop-HasRoomFor : (left : Option ℕ) (s : SpinState) → IsProp (HasRoomFor left s)
 is_prop-HasRoomFor None s = hlevel props
 is_prop-HasRoomFor (Some value) s = hlevel props
 
-is_prop-HasRoomToUse : (wanted : Wanted) (s : State) → IsProp (HasRoomToUse wanted s)
+is_prop-HasRoomToUse : (wanted : Wanted) (s : SpinState) → IsProp (HasRoomToUse wanted s)
 is_prop-HasRoomToUse Pushed s = hlevel props
 is_prop-HasRoomToUse (Changed effect right) s = hlevel props
 is_prop-HasRoomToUse (Replaced value) s = hlevel props
 is_prop-HasRoomToUse (Stepped by from to target) s = hlevel props
 
-is_prop-CanGive : (given : Given) (s : State) → IsProp (CanGive given s)
+is_prop-CanGive : (given : Given) (s : SpinState) → IsProp (CanGive given s)
 is_prop-CanGive (Called callee) s = hlevel props
 is_prop-CanGive (Started target origin count) s = hlevel (props, is_prop-IsNumber target, is_prop-IsProperOrigin origin)
 
-is_prop-IsReady : (later : Later) (s : State) → IsProp (IsReady later s)
+is_prop-IsReady : (later : Later) (s : SpinState) → IsProp (IsReady later s)
 is_prop-IsReady (Left value) s = is_prop-HasRoomFor value s
 is_prop-IsReady Push s = hlevel props
 is_prop-IsReady (Value place wanted) s = hlevel (props, is_prop-IsPlace place, is_prop-HasRoomToUse wanted s)
@@ -81,7 +81,7 @@ is_prop-IsReady (Filled width address value left) s = hlevel props
 is_prop-IsReady (Fetched width to from left) s = hlevel props
 is_prop-IsReady (Moved width to from left) s = hlevel props
 
-pub is_prop-IsSound : (stage : Stage) (s : State) → IsProp (IsSound stage s)
+pub is_prop-IsSound : (stage : SpinStage) (s : SpinState) → IsProp (IsSound stage s)
 is_prop-IsSound Entering s = hlevel props
 is_prop-IsSound Ready s = hlevel props
 is_prop-IsSound (Asked access later) s = hlevel (props, is_prop-IsMade access, is_prop-IsReady later s)

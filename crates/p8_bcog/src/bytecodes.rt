@@ -11,9 +11,9 @@ ghost use Rattle.p8_access.specs.Lives.{IsMade};
 ghost use Rattle.p8_bytecode.specs.Spelling.{IsOp};
 ghost use Rattle.p8_bytecode.specs.Reading.{bare};
 ghost use Rattle.p8_access.specs.Courses.{Finish};
-ghost use Rattle.p8_bcog.specs.declared.stage.Stage.TheVariants.{Ready};
+ghost use Rattle.p8_bcog.specs.declared.stage.SpinStage.TheVariants.{Ready};
 ghost use Rattle.p8_bcog.specs.Operands.{tested, pushed};
-ghost use Rattle.p8_bcog.specs.declared.state.State.{State};
+ghost use Rattle.p8_bcog.specs.declared.state.SpinState.{SpinState};
 ghost use Rattle.p8_bcog.specs.Quick.{finishes};
 ghost use Rattle.p8_bcog.specs.Standing.{is_under};
 ghost use Rattle.p8_bcog.specs.Stops.{at_stage, IsSound};
@@ -21,8 +21,8 @@ ghost use Rattle.p8_bcog.specs.Stops.{at_stage, IsSound};
 use crate::cogs::{long_address, number_in, target_of};
 use crate::operands::difference;
 use crate::running::stage_of;
-use crate::stage::Stage;
-use crate::state::State;
+use crate::stage::SpinStage;
+use crate::state::SpinState;
 use crate::step::Step;
 use p8_access::{Access, Origin, Reason, Test, Width};
 use p8_bytecode::{Op, take_op};
@@ -103,18 +103,18 @@ fn fetch(code: &[u8], at: u16) -> Option<(Op, u16)>
 
 /// How far a life is after a bytecode that asks nothing.
 #[inline]
-fn settle(stage: &mut Stage, finished: Result<(), Reason>)
+fn settle(stage: &mut SpinStage, finished: Result<(), Reason>)
     requires ready { stage.old ≡ Ready }
-    ensures does { (s : State) → at_stage stage.new s ≡ finishes finished s }
+    ensures does { (s : SpinState) → at_stage stage.new s ≡ finishes finished s }
     ensures under { is_under stage.new ≡ true }
-    ensures sound { (s : State) → IsSound stage.new s }
+    ensures sound { (s : SpinState) → IsSound stage.new s }
 {
     if let Err(reason) = finished {
-        *stage = Stage::Halted { reason };
+        *stage = SpinStage::Halted { reason };
     }
 }
 
-impl State {
+impl SpinState {
     /// The bytecodes 00 to 07.
     #[tactic(auto, unfolding(crate::specs::Bytecodes::call_row))]
     fn call_row(&mut self, memory: &[u8], op: Op) -> Result<Step, Reason>
@@ -336,7 +336,7 @@ impl State {
     /// Does the bytecode that stands where the cog is, in code that begins at address 0, and tells how far it is
     /// then. It answers the clocks up to where its first access counts.
     #[inline]
-    pub fn bytecode(&mut self, memory: &[u8], code: &[u8], cog: u8, stage: &mut Stage) -> u64
+    pub fn bytecode(&mut self, memory: &[u8], code: &[u8], cog: u8, stage: &mut SpinStage) -> u64
         requires ready { stage.old ≡ Ready }
         requires code { code.now ≡ code_of memory.now }
         requires room { length code.now ≤ 32768 }
@@ -359,7 +359,7 @@ impl State {
 
     /// Does a bytecode as `bytecode` does, the most frequent that ask first.
     #[inline]
-    fn asking_bytecode(&mut self, memory: &[u8], code: &[u8], cog: u8, stage: &mut Stage) -> u64
+    fn asking_bytecode(&mut self, memory: &[u8], code: &[u8], cog: u8, stage: &mut SpinStage) -> u64
         requires code { code.now ≡ code_of memory.now }
         requires room { length code.now ≤ 32768 }
         requires cog { cog < 8 }
@@ -379,7 +379,7 @@ impl State {
     /// Does any bytecode as `bytecode` does. It is not inlined, so that no value of it takes a register of the processor from the frequent
     /// ones.
     #[inline(never)]
-    fn any_bytecode(&mut self, memory: &[u8], code: &[u8], cog: u8, stage: &mut Stage) -> u64
+    fn any_bytecode(&mut self, memory: &[u8], code: &[u8], cog: u8, stage: &mut SpinStage) -> u64
         requires code { code.now ≡ code_of memory.now }
         requires room { length code.now ≤ 32768 }
         requires cog { cog < 8 }
@@ -392,7 +392,7 @@ impl State {
     {
         match fetch(code, self.at) {
             None => {
-                *stage = Stage::Halted {
+                *stage = SpinStage::Halted {
                     reason: Reason::Byte(self.at),
                 };
                 32

@@ -12,15 +12,15 @@ ghost use Rattle.p8_bcog.specs.Ready.{IsGood, CanGive};
 use crate::accesses::{next_address, read_of, write_of};
 use crate::calls::{ACTIVE_CALLS, Call};
 use crate::cogs::{long_address, target_of};
-use crate::marks::{Mark, OPEN_MARKS};
-use crate::places::ending;
+use crate::marks::{CallMark, OPEN_MARKS};
 use crate::stack::STACK_LONGS;
-use crate::state::State;
+use crate::state::SpinState;
 use crate::step::{Callee, Given, Later, Step};
 use crate::tables::{is_method, is_object, method_at, object_base, object_variables};
+use crate::variable_access::ending;
 use p8_access::{Access, Origin, Reason, Width};
 
-impl State {
+impl SpinState {
     /// Opens a mark.
     #[tactic(auto, unfolding(crate::specs::Calls::opens))]
     pub fn open_mark(&mut self, code: u8) -> Result<Step, Reason>
@@ -30,7 +30,7 @@ impl State {
         if self.marks.len() >= OPEN_MARKS {
             return Err(Reason::Stack);
         }
-        self.marks.push(Mark {
+        self.marks.push(CallMark {
             outer: self.base,
             unused: code % 2 == 1,
             traps: code / 2 % 2 == 1,

@@ -2,17 +2,17 @@
 ghost use Rattle.std.specs.Prelude.{◌≡◌, ◌+◌, ◌<◌, ◌≤◌, ◌%◌, ◌^◌, true};
 ghost use Rattle.p8_bcog.specs.Changes.{pushes, pops, leaves, stores, sets, steps_by_one, steps, changes_alone, changes_by, is_binary_effect, changes};
 ghost use Rattle.p8_access.specs.declared.kinds.Width.TheVariants.{Long};
-ghost use Rattle.p8_bcog.specs.declared.place.Place.TheVariants.{Memory};
+ghost use Rattle.p8_bcog.specs.declared.variable_place.VariablePlace.TheVariants.{Memory};
 ghost use Rattle.p8_bcog.specs.Laters.{comes};
 ghost use Rattle.p8_bcog.specs.Ready.{IsGood, IsPlace};
 ghost use Rattle.p8_bcog.specs.Standing.{is_under};
 ghost use Rattle.p8_bcog.specs.Stops.{at_stage, IsSound};
 
-use crate::place::Place;
-use crate::places::left_of;
-use crate::stage::Stage;
-use crate::state::State;
+use crate::stage::SpinStage;
+use crate::state::SpinState;
 use crate::step::{Step, Wanted};
+use crate::variable_access::left_of;
+use crate::variable_place::VariablePlace;
 use p8_access::{Reason, Width};
 use p8_bytecode::Op;
 use p8_words::is_unary;
@@ -33,10 +33,10 @@ fn is_binary_effect(effect: u8) -> bool
     effect >= 0x40 && !is_unary(effect + 0xA0)
 }
 
-impl State {
+impl SpinState {
     /// Pushes the value of a place that so many operands name.
     #[tactic(auto, unfolding(crate::specs::Changes::pushes))]
-    pub fn push_place(&mut self, named: usize, place: Place) -> Result<Step, Reason>
+    pub fn push_place(&mut self, named: usize, place: VariablePlace) -> Result<Step, Reason>
         requires named { named ≤ 2 }
         requires place { IsPlace place }
         ensures does { comes result self.new ≡ pushes named place self.old }
@@ -49,7 +49,7 @@ impl State {
 
     /// Pops a value into a place.
     #[tactic(auto, unfolding(crate::specs::Changes::pops))]
-    pub fn pop_place(&mut self, named: usize, place: Place) -> Result<Step, Reason>
+    pub fn pop_place(&mut self, named: usize, place: VariablePlace) -> Result<Step, Reason>
         requires named { named ≤ 2 }
         requires place { IsPlace place }
         ensures does { comes result self.new ≡ pops named place self.old }
@@ -63,7 +63,12 @@ impl State {
 
     /// Writes a popped value, which may be left.
     #[tactic(auto, unfolding(crate::specs::Changes::stores))]
-    fn store_place(&mut self, named: usize, effect: u8, place: Place) -> Result<Step, Reason>
+    fn store_place(
+        &mut self,
+        named: usize,
+        effect: u8,
+        place: VariablePlace,
+    ) -> Result<Step, Reason>
         requires named { named ≤ 2 }
         requires place { IsPlace place }
         ensures does { comes result self.new ≡ stores named effect place self.old }
@@ -82,7 +87,7 @@ impl State {
         named: usize,
         effect: u8,
         value: u32,
-        place: Place,
+        place: VariablePlace,
     ) -> Result<Step, Reason>
         requires named { named ≤ 2 }
         requires place { IsPlace place }
@@ -107,7 +112,12 @@ impl State {
 
     /// The end of a pass of REPEAT with the step 1.
     #[tactic(auto, unfolding(crate::specs::Changes::steps_by_one))]
-    fn step_place_by_one(&mut self, named: usize, op: Op, place: Place) -> Result<Step, Reason>
+    fn step_place_by_one(
+        &mut self,
+        named: usize,
+        op: Op,
+        place: VariablePlace,
+    ) -> Result<Step, Reason>
         requires named { named ≤ 2 }
         requires place { IsPlace place }
         ensures does { comes result self.new ≡ steps_by_one named op place self.old }
@@ -126,7 +136,7 @@ impl State {
 
     /// The end of a pass of REPEAT with a step.
     #[tactic(auto, unfolding(crate::specs::Changes::steps))]
-    fn step_place(&mut self, named: usize, op: Op, place: Place) -> Result<Step, Reason>
+    fn step_place(&mut self, named: usize, op: Op, place: VariablePlace) -> Result<Step, Reason>
         requires named { named ≤ 2 }
         requires place { IsPlace place }
         ensures does { comes result self.new ≡ steps named op place self.old }
@@ -145,7 +155,12 @@ impl State {
 
     /// Changes a place by an effect without a right side.
     #[tactic(auto, unfolding(crate::specs::Changes::changes_alone))]
-    fn change_place_alone(&mut self, named: usize, effect: u8, place: Place) -> Result<Step, Reason>
+    fn change_place_alone(
+        &mut self,
+        named: usize,
+        effect: u8,
+        place: VariablePlace,
+    ) -> Result<Step, Reason>
         requires named { named ≤ 2 }
         requires place { IsPlace place }
         requires effect { effect % 128 < 0x60 }
@@ -159,7 +174,12 @@ impl State {
 
     /// Changes a place by an effect with a right side.
     #[tactic(auto, unfolding(crate::specs::Changes::changes_by))]
-    fn change_place_by(&mut self, named: usize, effect: u8, place: Place) -> Result<Step, Reason>
+    fn change_place_by(
+        &mut self,
+        named: usize,
+        effect: u8,
+        place: VariablePlace,
+    ) -> Result<Step, Reason>
         requires named { named ≤ 2 }
         requires place { IsPlace place }
         requires effect { effect % 128 < 0x60 }
@@ -174,7 +194,7 @@ impl State {
 
     /// Changes a place by the effect of a bytecode.
     #[tactic(auto, unfolding(crate::specs::Changes::changes))]
-    pub fn change(&mut self, named: usize, op: Op, place: Place) -> Result<Step, Reason>
+    pub fn change(&mut self, named: usize, op: Op, place: VariablePlace) -> Result<Step, Reason>
         requires named { named ≤ 2 }
         requires place { IsPlace place }
         requires effect { op.effect % 128 < 0x60 }
@@ -202,7 +222,7 @@ impl State {
     /// Pushes a long of memory, and tells how far the life is then.
     #[inline]
     #[tactic(auto, unfolding(crate::specs::Changes::pushes))]
-    pub fn push_long(&mut self, address: u16, stage: &mut Stage)
+    pub fn push_long(&mut self, address: u16, stage: &mut SpinStage)
         ensures does { at_stage stage.new self.new ≡ pushes 0 (Memory Long address) self.old }
         ensures under { is_under stage.new ≡ true }
         ensures sound { IsSound stage.new self.new }
@@ -212,14 +232,14 @@ impl State {
                 self.take(0);
                 self.read_memory(Wanted::Pushed, Width::Long, address, stage);
             }
-            Err(reason) => *stage = Stage::Halted { reason },
+            Err(reason) => *stage = SpinStage::Halted { reason },
         }
     }
 
     /// Pops a value into a long of memory, and tells how far the life is then.
     #[inline]
     #[tactic(auto, unfolding(crate::specs::Changes::pops))]
-    pub fn pop_long(&mut self, address: u16, stage: &mut Stage)
+    pub fn pop_long(&mut self, address: u16, stage: &mut SpinStage)
         ensures does { at_stage stage.new self.new ≡ pops 0 (Memory Long address) self.old }
         ensures under { is_under stage.new ≡ true }
         ensures sound { IsSound stage.new self.new }
@@ -230,14 +250,14 @@ impl State {
                 self.take(1);
                 self.write_memory(Width::Long, address, value, None, stage);
             }
-            Err(reason) => *stage = Stage::Halted { reason },
+            Err(reason) => *stage = SpinStage::Halted { reason },
         }
     }
 
     /// Changes a long of memory by an effect without a right side, and tells how far the life is then.
     #[inline]
     #[tactic(auto, unfolding(crate::specs::Changes::changes_alone))]
-    pub fn change_long(&mut self, effect: u8, address: u16, stage: &mut Stage)
+    pub fn change_long(&mut self, effect: u8, address: u16, stage: &mut SpinStage)
         requires effect { effect % 128 < 0x60 }
         ensures does { at_stage stage.new self.new ≡ changes_alone 0 effect (Memory Long address) self.old }
         ensures under { is_under stage.new ≡ true }
@@ -249,7 +269,7 @@ impl State {
                 let wanted = Wanted::Changed { effect, right: 0 };
                 self.read_memory(wanted, Width::Long, address, stage);
             }
-            Err(reason) => *stage = Stage::Halted { reason },
+            Err(reason) => *stage = SpinStage::Halted { reason },
         }
     }
 }

@@ -6,9 +6,9 @@ ghost use Rattle.p8_bcog.specs.Cogs.{tells, asks_word, long_address, target_of, 
 ghost use Rattle.p8_bcog.specs.Laters.{comes};
 ghost use Rattle.p8_bcog.specs.Ready.{IsGood};
 
-use crate::places::ending;
-use crate::state::State;
+use crate::state::SpinState;
 use crate::step::{Later, Step};
+use crate::variable_access::ending;
 use p8_access::{Access, Origin, Reason, Test};
 
 /// The low 16 bits of a value with bits 1 and 0 cleared.
@@ -35,7 +35,7 @@ pub fn number_in(value: u32) -> u8
     (value & 7) as u8
 }
 
-impl State {
+impl SpinState {
     /// Asks an access that leaves nothing.
     #[tactic(auto, unfolding(crate::specs::Cogs::tells))]
     pub fn tell(&mut self, takes: usize, access: Access) -> Result<Step, Reason>

@@ -7,7 +7,7 @@ ghost use Rattle.p8_bcog.specs.Ready.{IsGood};
 ghost use Rattle.p8_bcog.specs.Quick.{finishes};
 
 use crate::operands::{difference, distance, is_at_most, is_between, sum_of};
-use crate::state::State;
+use crate::state::SpinState;
 use crate::step::Step;
 use p8_access::Reason;
 
@@ -22,7 +22,7 @@ fn toward(a: u32, b: u32, far: u32) -> u32
     }
 }
 
-impl State {
+impl SpinState {
     /// The begin of a loop by count, which is left where the count is 0.
     #[inline]
     #[tactic(auto, unfolding(crate::specs::Control::loop_begins))]

@@ -7,48 +7,48 @@ ghost use Rattle.p8_bcog.specs.Standing.{is_under};
 ghost use Rattle.p8_bcog.specs.Stops.{at_stage, resumed, IsSound};
 
 use crate::accesses::word_in;
-use crate::place::Place;
 use crate::running::stage_of;
-use crate::stage::Stage;
-use crate::state::State;
+use crate::stage::SpinStage;
+use crate::state::SpinState;
 use crate::step::{Later, Step, Wanted};
+use crate::variable_place::VariablePlace;
 use p8_access::{Answer, Reason};
 
-impl State {
+impl SpinState {
     /// Goes on by an answer, and tells how far the life is then. What most answers are for is done here, and the word of one is looked at
     /// only where it is needed.
     #[inline(always)]
     #[tactic(auto, unfolding(crate::specs::Places::uses))]
-    pub fn resume(&mut self, answer: Answer, stage: &mut Stage)
+    pub fn resume(&mut self, answer: Answer, stage: &mut SpinStage)
         requires { IsSound stage.old self.old }
         ensures does { at_stage stage.new self.new ≡ resumed stage.old self.old (word_in answer) }
         ensures under { is_under stage.new ≡ is_under stage.old }
         ensures sound { IsSound stage.new self.new }
     {
         match *stage {
-            Stage::Asked {
+            SpinStage::Asked {
                 later: Later::Left { value },
                 ..
             } => {
                 self.leave(value);
-                *stage = Stage::Ready;
+                *stage = SpinStage::Ready;
             }
-            Stage::Asked {
+            SpinStage::Asked {
                 later: Later::Value {
-                    place: Place::Memory { width, address },
+                    place: VariablePlace::Memory { width, address },
                     wanted: Wanted::Changed { effect, right },
                 },
                 ..
             } => self.change_memory(effect, right, width, address, word_in(answer), stage),
-            Stage::Asked {
+            SpinStage::Asked {
                 later: Later::Value {
-                    place: Place::Memory { .. },
+                    place: VariablePlace::Memory { .. },
                     wanted: Wanted::Pushed,
                 },
                 ..
             } => {
                 self.push(word_in(answer));
-                *stage = Stage::Ready;
+                *stage = SpinStage::Ready;
             }
             _ => self.resume_any(answer, stage),
         }
@@ -57,18 +57,18 @@ impl State {
     /// Goes on as `resume` does, whatever an answer is for. It is not inlined: the compiler clears the memory for the result of a
     /// call where the function begins that makes the call.
     #[inline(never)]
-    fn resume_any(&mut self, answer: Answer, stage: &mut Stage)
+    fn resume_any(&mut self, answer: Answer, stage: &mut SpinStage)
         requires { IsSound stage.old self.old }
         ensures does { at_stage stage.new self.new ≡ resumed stage.old self.old (word_in answer) }
         ensures under { is_under stage.new ≡ is_under stage.old }
         ensures sound { IsSound stage.new self.new }
     {
         match *stage {
-            Stage::Asked { later, .. } => *stage = stage_of(self.go_on(later, word_in(answer))),
-            Stage::Entering => {}
-            Stage::Ready => {}
-            Stage::Halted { .. } => {}
-            Stage::Over => {}
+            SpinStage::Asked { later, .. } => *stage = stage_of(self.go_on(later, word_in(answer))),
+            SpinStage::Entering => {}
+            SpinStage::Ready => {}
+            SpinStage::Halted { .. } => {}
+            SpinStage::Over => {}
         }
     }
 

@@ -13,8 +13,6 @@ mod later;
 mod marks;
 mod moves;
 mod operands;
-mod place;
-mod places;
 mod quick;
 mod running;
 mod spin;
@@ -23,6 +21,8 @@ mod stage;
 mod state;
 mod step;
 mod tables;
+mod variable_access;
+mod variable_place;
 mod variables;
 
 pub use spin::SpinCog;

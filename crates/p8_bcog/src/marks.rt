@@ -1,6 +1,6 @@
 // The open marks of calls.
 ghost use Rattle.std.specs.Prelude.{List, ◌≡◌, ◌<◌, ◌≤◌, ◌-◌, ◌∷◌, [], length, drop, IfOk, MatchOption};
-ghost use Rattle.p8_bcog.specs.declared.marks.Mark.{Mark};
+ghost use Rattle.p8_bcog.specs.declared.marks.CallMark.{CallMark};
 
 use p8_words::NoMemory;
 use std::alloc::Global;
@@ -11,7 +11,7 @@ pub const OPEN_MARKS: usize = 16384;
 
 /// A call is to come: the longs above the height at which the mark was opened are to be its arguments.
 #[derive(Clone, Copy)]
-pub struct Mark {
+pub struct CallMark {
     /// The height above which operands were counted before.
     pub outer: u16,
     /// Whether the caller has no use for the value.
@@ -23,14 +23,14 @@ pub struct Mark {
 /// The open marks, the newest first. All memory that they may need is taken at the start.
 #[derive(Drop)]
 pub struct Marks {
-    marks: Vec<Mark>,
+    marks: Vec<CallMark>,
 }
 
 impl Model for Marks {
     ghost use Rattle.std.specs.Prelude.{◌≤◌, List, length, reverse, vec_capacity};
-    ghost use Rattle.p8_bcog.specs.declared.marks.Mark.{Mark};
+    ghost use Rattle.p8_bcog.specs.declared.marks.CallMark.{CallMark};
 
-    ghost Value = { List Mark };
+    ghost Value = { List CallMark };
 
     ghost view = { λ m. reverse m.marks.items };
 
@@ -56,7 +56,7 @@ impl Marks {
     }
 
     /// Opens one more.
-    pub fn push(&mut self, mark: Mark)
+    pub fn push(&mut self, mark: CallMark)
         requires { length self.old < 16384 }
         ensures { self.new ≡ mark ∷ self.old }
     {
@@ -67,7 +67,7 @@ impl Marks {
     }
 
     /// Closes the newest.
-    pub fn pop(&mut self) -> Option<Mark>
+    pub fn pop(&mut self) -> Option<CallMark>
         ensures popped { MatchOption result (self.old ≡ []) (λ mark. self.old ≡ mark ∷ self.new) }
         ensures kept { result ≡ None → self.new ≡ self.old }
     {

@@ -1,14 +1,14 @@
 // Fills, moves and texts.
 ghost use Rattle.std.specs.Prelude.{◌≡◌, ◌<◌, ◌≤◌, ◌%◌, ◌^◌, length};
 ghost use Rattle.p8_bcog.specs.Accesses.{aligned};
-ghost use Rattle.p8_bcog.specs.declared.state.State.{State};
+ghost use Rattle.p8_bcog.specs.declared.state.SpinState.{SpinState};
 ghost use Rattle.p8_bcog.specs.Moves.{count_of, fills, fill, moves, move_elements, room_from, counts, text_size, compares, text_compare};
 ghost use Rattle.p8_bcog.specs.declared.step.Later.TheVariants.{Counted, Compared, ComparedWith, Fetched};
 ghost use Rattle.p8_bcog.specs.Laters.{comes, later_on, reading};
 ghost use Rattle.p8_bcog.specs.Ready.{IsGood, IsReady, HasRoom};
 
 use crate::accesses::{next_address, read_of, write_of};
-use crate::state::State;
+use crate::state::SpinState;
 use crate::step::{Later, Step};
 use p8_access::{Reason, Width};
 
@@ -22,8 +22,8 @@ fn count_of(value: u32) -> u32
 /// A read of memory, or a halt where it would be of ROM.
 #[inline]
 fn reading(width: Width, address: u16, later: Later) -> Result<Step, Reason>
-    ensures does { (s : State) → comes result s ≡ reading width address later s }
-    ensures good { (s : State) → (aligned width address < 32768 → IsReady later s) → IsGood result s }
+    ensures does { (s : SpinState) → comes result s ≡ reading width address later s }
+    ensures good { (s : SpinState) → (aligned width address < 32768 → IsReady later s) → IsGood result s }
 {
     match read_of(width, address) {
         Ok(access) => Ok(Step::Asking { access, later }),
@@ -38,7 +38,7 @@ fn address_in(value: u32) -> u16
     (value & 0xFFFF) as u16
 }
 
-impl State {
+impl SpinState {
     /// Writes the next of so many elements, if there is one.
     pub fn fill_on(&self, width: Width, address: u16, value: u32, left: u32) -> Result<Step, Reason>
         ensures does { comes result self.now ≡ fills width address value left self.now }

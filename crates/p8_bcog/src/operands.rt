@@ -5,11 +5,11 @@ ghost use Rattle.p8_bcog.specs.Operands.{left_by, operand, taken, pushed, replac
 ghost use Rattle.p8_bcog.specs.Operands.{difference, distance};
 
 use crate::stack::STACK_LONGS;
-use crate::state::State;
+use crate::state::SpinState;
 use p8_access::Reason;
 use p8_words::signed;
 
-impl State {
+impl SpinState {
     /// Whether a bytecode that takes and leaves so many longs may be done; the error is why not.
     #[inline]
     pub fn test(&self, takes: usize, leaves: usize) -> Result<(), Reason>

@@ -8,8 +8,8 @@ ghost use Rattle.p8_bcog.specs.Standing.{is_under};
 ghost use Rattle.p8_bcog.specs.Stops.{at_stage, IsSound};
 
 use crate::bytecodes::packed;
-use crate::stage::Stage;
-use crate::state::State;
+use crate::stage::SpinStage;
+use crate::state::SpinState;
 use p8_access::Reason;
 
 /// The offset of a jump by its only byte, a word in two's complement.
@@ -91,7 +91,7 @@ fn byte_of(code: &[u8], place: usize) -> u8
     code[place]
 }
 
-impl State {
+impl SpinState {
     /// Goes on after so many bytes.
     #[inline]
     fn pass(&mut self, bytes: u16)
@@ -174,7 +174,7 @@ impl State {
     /// Does the bytecode that these two bytes begin, if it pushes or pops a long variable that it names, or adds 1 to it or
     /// subtracts 1, and tells how far it is then.
     #[inline]
-    fn quick_variable_on(&mut self, byte: u8, operand: u8, stage: &mut Stage) -> Option<()>
+    fn quick_variable_on(&mut self, byte: u8, operand: u8, stage: &mut SpinStage) -> Option<()>
         requires { self.old.at + 2 < 2 ^ 16 }
         ensures does { MatchOption result (self.new ≡ self.old)
             (λ done. (rest : List ℕ) → IsQuick (byte ∷ operand ∷ rest) self.old (at_stage stage.new self.new)) }
@@ -231,7 +231,7 @@ impl State {
     /// Does the bytecode that stands where the cog is, if it pushes or pops a long variable that it names, or adds 1 to it or
     /// subtracts 1, and tells how far it is then. It asks for three bytes, as `quick` does, so that one test serves both.
     #[inline]
-    pub fn quick_variable(&mut self, code: &[u8], stage: &mut Stage) -> Option<()>
+    pub fn quick_variable(&mut self, code: &[u8], stage: &mut SpinStage) -> Option<()>
         requires room { length code.now ≤ 32768 }
         ensures does { MatchOption result (self.new ≡ self.old)
             (λ done. (memory : List ℕ) (cog : ℕ) → code.now ≡ code_of memory →

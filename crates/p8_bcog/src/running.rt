@@ -2,12 +2,12 @@
 ghost use Rattle.std.specs.Prelude.{◌≡◌, ◌<◌, ◌≤◌, ◌+◌, ◌*◌, ◌^◌, length};
 ghost use Rattle.p8_access.specs.Timing.{earliest, behind};
 ghost use Rattle.p8_bcog.specs.Code.{code_of};
-ghost use Rattle.p8_bcog.specs.declared.state.State.{State};
-ghost use Rattle.p8_bcog.specs.declared.stage.Stage.TheVariants.{Ready};
+ghost use Rattle.p8_bcog.specs.declared.state.SpinState.{SpinState};
+ghost use Rattle.p8_bcog.specs.declared.stage.SpinStage.TheVariants.{Ready};
 ghost use Rattle.p8_bcog.specs.Stops.{stage_of, is_ready, done_by, IsSound, Leads, Led, IsBehind};
 
-use crate::stage::Stage;
-use crate::state::State;
+use crate::stage::SpinStage;
+use crate::state::SpinState;
 use crate::step::Step;
 use p8_access::{Access, Reason, window};
 
@@ -25,36 +25,42 @@ pub struct Ran {
 }
 
 /// How far a life is after a bytecode.
-pub fn stage_of(stepped: Result<Step, Reason>) -> Stage
+pub fn stage_of(stepped: Result<Step, Reason>) -> SpinStage
     ensures { result ≡ stage_of stepped }
 {
     match stepped {
-        Ok(Step::Done) => Stage::Ready,
-        Ok(Step::Asking { access, later }) => Stage::Asked { access, later },
-        Err(reason) => Stage::Halted { reason },
+        Ok(Step::Done) => SpinStage::Ready,
+        Ok(Step::Asking { access, later }) => SpinStage::Asked { access, later },
+        Err(reason) => SpinStage::Halted { reason },
     }
 }
 
 /// Whether a bytecode is to be done next.
 #[inline]
-pub fn is_ready(stage: &Stage) -> bool
+pub fn is_ready(stage: &SpinStage) -> bool
     ensures { result ≡ is_ready stage.now }
 {
     match stage {
-        Stage::Ready => true,
-        Stage::Entering | Stage::Asked { .. } | Stage::Halted { .. } | Stage::Over => false,
+        SpinStage::Ready => true,
+        SpinStage::Entering
+        | SpinStage::Asked { .. }
+        | SpinStage::Halted { .. }
+        | SpinStage::Over => false,
     }
 }
 
 /// How many bytecodes are done with the one that stands so.
 #[inline]
-pub fn done_by(stage: &Stage) -> u64
+pub fn done_by(stage: &SpinStage) -> u64
     ensures done { result ≡ done_by stage.now }
     ensures most { result ≤ 1 }
 {
     match stage {
-        Stage::Ready => 1,
-        Stage::Entering | Stage::Asked { .. } | Stage::Halted { .. } | Stage::Over => 0,
+        SpinStage::Ready => 1,
+        SpinStage::Entering
+        | SpinStage::Asked { .. }
+        | SpinStage::Halted { .. }
+        | SpinStage::Over => 0,
     }
 }
 
@@ -92,8 +98,8 @@ pub fn behind(clock: u64, access: Access, turn: u64) -> u64
 ///
 /// This loop is where a cog that computes spends its time.
 pub fn run(
-    state: &mut State,
-    stage: &mut Stage,
+    state: &mut SpinState,
+    stage: &mut SpinStage,
     memory: &[u8],
     code: &[u8],
     cog: u8,
@@ -109,7 +115,7 @@ pub fn run(
     requires until { until < 2 ^ 62 }
     ensures budget { result.done ≤ budget }
     ensures leads { Leads memory.now cog result.done state.old begin stage.new state.new result.clock }
-    ensures began { (s : State) × Led memory.now cog result.done state.old begin s result.begun × (s.at ≡ result.counter) }
+    ensures began { (s : SpinState) × Led memory.now cog result.done state.old begin s result.begun × (s.at ≡ result.counter) }
     ensures sound { IsSound stage.new state.new }
     ensures is_behind { IsBehind result.done budget result.begun result.clock until stage.new }
     ensures least { begin + 32 * result.done ≤ result.begun }

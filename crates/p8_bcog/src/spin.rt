@@ -4,7 +4,7 @@ ghost use Rattle.p8_access.specs.declared.lives.Next.TheVariants.{Quiet};
 ghost use Rattle.p8_access.specs.declared.order.Turn.{Turn};
 ghost use Rattle.p8_access.specs.Lives.{Begun, SpinBegun, IsMade, IsMadeNext, is_last};
 ghost use Rattle.p8_access.specs.Timing.{Asks, earliest};
-ghost use Rattle.p8_bcog.specs.declared.stage.Stage.TheVariants.{Ready, Over};
+ghost use Rattle.p8_bcog.specs.declared.stage.SpinStage.TheVariants.{Ready, Over};
 ghost use Rattle.p8_bcog.specs.Origins.{IsSpin};
 ghost use Rattle.p8_bcog.specs.Counters.{IsAnnouncing, IsCounter};
 ghost use Rattle.p8_bcog.specs.Replay.{IsAsked, Begins};
@@ -16,8 +16,8 @@ ghost use Rattle.p8_bcog.specs.Laws.{one-asked, asked-first, asked-later, pace_h
 use crate::accesses::write_of;
 use crate::running::{behind, done_by, earliest, is_ready, run};
 use crate::stack::{OperandStack, own_strip};
-use crate::stage::Stage;
-use crate::state::State;
+use crate::stage::SpinStage;
+use crate::state::SpinState;
 use crate::tables::code_end;
 use p8_access::{Access, Life, Next, Origin, Ram, Turn, Width};
 use p8_region::Strip;
@@ -34,8 +34,8 @@ pub struct SpinCog {
     code: Ram,
     /// Its own number.
     cog: u8,
-    state: State,
-    stage: Stage,
+    state: SpinState,
+    stage: SpinStage,
     /// The clock at which the next bytecode begins, or from which the access at hand counts.
     clock: u64,
     /// The clock that it has come to: where the bytecode at hand began, or is after its last turn.
@@ -104,7 +104,7 @@ fn below(cog: u8, clock: u64, access: Access, until: u64) -> Next
 
 /// What a life tells that stands so. It is always inlined, so that its answer is written where that of the life goes.
 #[inline(always)]
-fn told(stage: &Stage, state: &State, cog: u8, clock: u64, until: u64) -> Next
+fn told(stage: &SpinStage, state: &SpinState, cog: u8, clock: u64, until: u64) -> Next
     requires cog { cog < 8 }
     requires until { until < 2 ^ 62 }
     requires sound { IsSound stage.now state.now }
@@ -114,17 +114,17 @@ fn told(stage: &Stage, state: &State, cog: u8, clock: u64, until: u64) -> Next
     ensures near { result ≡ Quiet → (stage.now ≡ Over) ⊎ (until ≤ clock + 16) }
 {
     match stage {
-        Stage::Entering => below(cog, clock, write_of(Width::Long, state.frame, 0), until),
-        Stage::Ready => {
+        SpinStage::Entering => below(cog, clock, write_of(Width::Long, state.frame, 0), until),
+        SpinStage::Ready => {
             if clock < until {
                 Next::More { bound: clock }
             } else {
                 Next::Quiet
             }
         }
-        Stage::Asked { access, .. } => below(cog, clock, *access, until),
-        Stage::Halted { reason } => below(cog, clock, Access::Halt { reason: *reason }, until),
-        Stage::Over => Next::Quiet,
+        SpinStage::Asked { access, .. } => below(cog, clock, *access, until),
+        SpinStage::Halted { reason } => below(cog, clock, Access::Halt { reason: *reason }, until),
+        SpinStage::Over => Next::Quiet,
     }
 }
 
@@ -184,13 +184,13 @@ impl SpinCog {
         ensures announced { IfOk result (λ life. ⟦<SpinCog as Life>⟧.announced life ≡ None) }
         ensures cog { IfOk result (λ life. ⟦<SpinCog as Life>⟧.cog life ≡ cog) }
     {
-        let mut state = State::new(alloc, OperandStack::in_strip(stack))?;
+        let mut state = SpinState::new(alloc, OperandStack::in_strip(stack))?;
         state.begin(origin);
         Ok(SpinCog {
             code,
             cog,
             state,
-            stage: Stage::Entering,
+            stage: SpinStage::Entering,
             clock: begin + 8192,
             reached: begin + 8192,
             done: 0,
@@ -219,7 +219,7 @@ impl SpinCog {
         self.code = code;
         self.state.begin(origin);
         self.cog = cog;
-        self.stage = Stage::Entering;
+        self.stage = SpinStage::Entering;
         self.clock = begin + 8192;
         self.reached = begin + 8192;
         self.done = 0;
@@ -237,8 +237,8 @@ impl SpinCog {
             return None;
         }
         match self.stage {
-            Stage::Asked { .. } | Stage::Halted { .. } => Some(self.counter),
-            Stage::Entering | Stage::Ready | Stage::Over => None,
+            SpinStage::Asked { .. } | SpinStage::Halted { .. } => Some(self.counter),
+            SpinStage::Entering | SpinStage::Ready | SpinStage::Over => None,
         }
     }
 }
@@ -298,30 +298,30 @@ impl Life for SpinCog {
     fn take_answer(&mut self, turn: &Turn) {
         self.asking = false;
         match self.stage {
-            Stage::Entering => {
+            SpinStage::Entering => {
                 self.clock = turn.key.clock + 7;
                 self.reached = turn.key.clock + 7;
-                self.stage = Stage::Ready;
+                self.stage = SpinStage::Ready;
             }
-            Stage::Asked { access, .. } => {
+            SpinStage::Asked { access, .. } => {
                 let clock = behind(self.clock, access, turn.key.clock);
                 self.clock = clock;
                 self.reached = clock;
                 if is_last(self.cog, access) {
-                    self.stage = Stage::Over;
+                    self.stage = SpinStage::Over;
                     self.done += 1;
                 } else {
                     self.state.resume(turn.answer, &mut self.stage);
                     self.done += done_by(&self.stage);
                 }
             }
-            Stage::Halted { .. } => {
+            SpinStage::Halted { .. } => {
                 self.clock = turn.key.clock + 1;
                 self.reached = turn.key.clock + 1;
-                self.stage = Stage::Over;
+                self.stage = SpinStage::Over;
                 self.done += 1;
             }
-            Stage::Ready | Stage::Over => unreachable!(),
+            SpinStage::Ready | SpinStage::Over => unreachable!(),
         }
     }
 

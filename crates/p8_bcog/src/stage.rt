@@ -4,7 +4,7 @@ use p8_access::{Access, Reason};
 
 /// How far a life is.
 #[derive(Clone, Copy)]
-pub enum Stage {
+pub enum SpinStage {
     /// The write of its entry has had no turn yet.
     Entering,
     /// A bytecode is to be done next.

@@ -12,7 +12,7 @@ use std::alloc::Global;
 
 /// What stands in a Spin cog where a bytecode begins. Addresses are hub addresses in bytes.
 #[derive(Drop)]
-pub struct State {
+pub struct SpinState {
     /// The address of the bytecode.
     pub at: u16,
     /// The base of the object.
@@ -38,10 +38,10 @@ pub struct State {
     pub par: u16,
 }
 
-impl State {
+impl SpinState {
     /// All memory that a cog needs, beside a stack. Nothing of use stands there before `begin`.
-    pub fn new(alloc: Global, stack: OperandStack) -> Result<State, NoMemory> {
-        Ok(State {
+    pub fn new(alloc: Global, stack: OperandStack) -> Result<SpinState, NoMemory> {
+        Ok(SpinState {
             at: 0,
             pbase: 0,
             vbase: 0,

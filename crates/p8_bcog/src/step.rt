@@ -1,5 +1,5 @@
 // How far a bytecode is.
-use crate::place::Place;
+use crate::variable_place::VariablePlace;
 use p8_access::{Access, Origin, Width};
 
 /// What a called method begins with.
@@ -50,7 +50,7 @@ pub enum Later {
     Push,
     /// The answer's value is that of a place.
     Value {
-        place: Place,
+        place: VariablePlace,
         wanted: Wanted,
     },
     /// The operands from this place up to that are written, the first to this address.

@@ -5,9 +5,9 @@ ghost use Rattle.p8_bcog.specs.Variables.{acts_on_pins, register_of, one_pin, so
 ghost use Rattle.p8_bcog.specs.Laters.{comes};
 ghost use Rattle.p8_bcog.specs.Ready.{IsGood, IsPlace};
 
-use crate::place::Place;
-use crate::state::State;
+use crate::state::SpinState;
 use crate::step::Step;
+use crate::variable_place::VariablePlace;
 use p8_access::{Access, Reason, Width};
 use p8_bytecode::Op;
 
@@ -54,7 +54,7 @@ fn register_of(byte: u32) -> u16
     0x1E0 + (byte & 31) as u16
 }
 
-impl State {
+impl SpinState {
     /// Does with a variable what its bytecode says.
     #[tactic(auto, unfolding(crate::specs::Variables::acts))]
     fn act(
@@ -70,7 +70,7 @@ impl State {
         ensures does { comes result self.new ≡ acts action named op width address self.old }
         ensures good { IsGood result self.new }
     {
-        let place = Place::Memory { width, address };
+        let place = VariablePlace::Memory { width, address };
         match action {
             0 => self.push_place(named, place),
             1 => self.pop_place(named, place),
@@ -156,7 +156,7 @@ impl State {
 
     /// Does with pins what the register's byte says.
     #[tactic(auto, unfolding(crate::specs::Variables::acts_on_pins))]
-    fn act_on_pins(&mut self, named: usize, op: Op, place: Place) -> Result<Step, Reason>
+    fn act_on_pins(&mut self, named: usize, op: Op, place: VariablePlace) -> Result<Step, Reason>
         requires named { named ≤ 2 }
         requires effect { op.effect % 128 < 0x60 }
         requires place { IsPlace place }
@@ -184,7 +184,7 @@ impl State {
         self.act_on_pins(
             1,
             op,
-            Place::Pins {
+            VariablePlace::Pins {
                 register,
                 high: pin,
                 low: pin,
@@ -205,7 +205,7 @@ impl State {
         self.act_on_pins(
             2,
             op,
-            Place::Pins {
+            VariablePlace::Pins {
                 register,
                 high,
                 low,
@@ -224,7 +224,7 @@ impl State {
         self.act_on_pins(
             0,
             op,
-            Place::Pins {
+            VariablePlace::Pins {
                 register,
                 high: 31,
                 low: 0,

@@ -10,8 +10,8 @@ use Rattle.p8_columns.specs.Lines as lines
 use Rattle.p8_columns.specs.Lines.{Kind}
 use Rattle.p8_columns.proofs.Meaning.{one_reading}
 use Rattle.p8_lexer.specs.Pieces.{Piece}
-use Rattle.p8_lines.specs.declared.state.State.{State}
-use Rattle.p8_lines.specs.declared.state.State.TheVariants as state
+use Rattle.p8_lines.specs.declared.state.LineState.{LineState}
+use Rattle.p8_lines.specs.declared.state.LineState.TheVariants as state
 use Rattle.p8_lines.specs.Tokens.{LineToken, word}
 use Rattle.p8_lines.specs.Lines.{Outcome, read, refused, Reads}
 use Rattle.p8_lines.proofs.Readings as readings
@@ -32,14 +32,14 @@ pub record Same {A : Type 0} (a b : A) (us vs : List LineToken) : Type 0 where
   pub values : a ≡ b
   pub rests : us ≡ vs
 
-read_as : {V : Type 0} {value : List Piece → Option V} {q : State} {ts us vs : List LineToken} {a b : V} → ReadsAs value q ts a us → ReadsAs value q ts b vs → Same a b us vs
+read_as : {V : Type 0} {value : List Piece → Option V} {q : LineState} {ts us vs : List LineToken} {a b : V} → ReadsAs value q ts a us → ReadsAs value q ts b vs → Same a b us vs
 read_as {value = value} {q = q} {ts = ts} {us = us} {vs = vs} {a = a} {b = b} x y =
     let e : read x.row us ≡ read y.row vs = readings.one_reading q ts (read x.row us) (read y.row vs) x.reads y.reads in
     let rows : x.row ≡ y.row = cc in
     let found : Some a ≡ Some b = sym x.is ∙ ap value rows ∙ y.is in
     record { values = cc; rests = cc }
 
-not_both : {V : Type 0} {value : List Piece → Option V} {q : State} {ts us : List LineToken} {a : V} {n : ℕ} {p : Place} → ReadsAs value q ts a us → Reads q ts (refused n p) → ⊥
+not_both : {V : Type 0} {value : List Piece → Option V} {q : LineState} {ts us : List LineToken} {a : V} {n : ℕ} {p : Place} → ReadsAs value q ts a us → Reads q ts (refused n p) → ⊥
 not_both {q = q} {ts = ts} {us = us} {n = n} {p = p} x y = let e = readings.one_reading q ts (read x.row us) (refused n p) x.reads y in cc
 
 pub carried : {A B : Type 0} {a b : A} {us vs : List LineToken} (f : A → B) → Same a b us vs → Same (f a) (f b) us vs
@@ -108,7 +108,7 @@ not_extended x = elim x [ ]
 pub end_begins_none : (t : LineToken) → word t ≡ word_case.LineEnd → IsHead t → ⊥
 end_begins_none t e h = let z = sym (ap is_block_word e) ∙ h.0 in cc
 
-read_as_kinds : {q r : State} {ts us vs : List LineToken} {k l : Kind} → q ≡ r → ReadsAs kind_of_row q ts k us → ReadsAs kind_of_row r ts l vs → Same k l us vs
+read_as_kinds : {q r : LineState} {ts us vs : List LineToken} {k l : Kind} → q ≡ r → ReadsAs kind_of_row q ts k us → ReadsAs kind_of_row r ts l vs → Same k l us vs
 read_as_kinds {r = r} {ts = ts} {us = us} {k = k} e x y = read_as (subst (λ q. ReadsAs kind_of_row q ts k us) e x) y
 
 one_step : {x y z : Position} {ts us vs : List LineToken} → Step x ts y us → Step x ts z vs → Same y z us vs
@@ -164,24 +164,24 @@ pub record Told (n m : ℕ) (p q : Place) : Type 0 where
   pub numbers : n ≡ m
   pub places : p ≡ q
 
-one_refusal : {q r : State} {ts : List LineToken} {n m : ℕ} {p o : Place} → q ≡ r → Reads q ts (refused n p) → Reads r ts (refused m o) → Told n m p o
+one_refusal : {q r : LineState} {ts : List LineToken} {n m : ℕ} {p o : Place} → q ≡ r → Reads q ts (refused n p) → Reads r ts (refused m o) → Told n m p o
 one_refusal {r = r} {ts = ts} {n = n} {m = m} {p = p} {o = o} e x y =
     let z = readings.one_reading r ts (refused n p) (refused m o) (subst (λ q. Reads q ts (refused n p)) e x) y in
     record { numbers = cc; places = cc }
 
-loop_or_opener : (q : State) (w : Word) → (if leaves_loop q w then opens q w else false) ≡ false
+loop_or_opener : (q : LineState) (w : Word) → (if leaves_loop q w then opens q w else false) ≡ false
 loop_or_opener state.Statement word_case.Next = refl
 loop_or_opener state.Statement w = refl
 loop_or_opener state.CaseItem w = refl
 loop_or_opener q w = refl
 
-pub loop_or_deep : (ls : List lines.Line) (q r : State) (t : LineToken) → q ≡ r → HasNoLoop ls q t → IsTooDeep ls r t → ⊥
+pub loop_or_deep : (ls : List lines.Line) (q r : LineState) (t : LineToken) → q ≡ r → HasNoLoop ls q t → IsTooDeep ls r t → ⊥
 loop_or_deep ls q r t e l d =
     let z = ap (λ b. if b then opens r (word t) else false) (sym (subst (λ q. IsTrue (leaves_loop q (word t))) e l.0)) ∙ loop_or_opener r (word t) in
     let y = sym d.0 ∙ z in
     cc
 
-too_deep_told : (ls : List lines.Line) (q r : State) (t : LineToken) (ts : List LineToken) (o : Outcome) (n : ℕ) (p : Place) → q ≡ r → IsTooDeep ls q t → Reads q (t ∷ ts) o → ¬ IsRefusedAt t.place o → (IsTooDeep ls r t → p ≡ t.place) → Reads r (t ∷ ts) (refused n p) → ⊥
+too_deep_told : (ls : List lines.Line) (q r : LineState) (t : LineToken) (ts : List LineToken) (o : Outcome) (n : ℕ) (p : Place) → q ≡ r → IsTooDeep ls q t → Reads q (t ∷ ts) o → ¬ IsRefusedAt t.place o → (IsTooDeep ls r t → p ≡ t.place) → Reads r (t ∷ ts) (refused n p) → ⊥
 too_deep_told ls q r t ts o n p e d x told there y =
     let same = readings.one_reading r (t ∷ ts) o (refused n p) (subst (λ q. Reads q (t ∷ ts) o) e x) y in
     told (subst (λ o. IsRefusedAt t.place o) (sym same) (there (subst (λ q. IsTooDeep ls q t) e d)))

@@ -3,8 +3,8 @@ use Rattle.std.proofs.Common.{◌≡◌, ℕ, List, [], ◌∷◌, Some, None, B
 use Rattle.std.specs.Prelude.{IsTrue, if◌then◌else◌}
 use Rattle.p8_tree.specs.declared.places.Place.{Place}
 use Rattle.p8_tree.specs.Sources.{Constant}
-use Rattle.p8_lines.specs.declared.state.State.{State}
-use Rattle.p8_lines.specs.declared.state.State.TheVariants as state
+use Rattle.p8_lines.specs.declared.state.LineState.{LineState}
+use Rattle.p8_lines.specs.declared.state.LineState.TheVariants as state
 use Rattle.p8_declarations.specs.Parts.{Part, line_end, equals, hash, left_bracket, part_of_piece, is_line_end, ended}
 use Rattle.p8_declarations.specs.Constants.{setting, constant, constants, constants_named, constants_behind, constants_of_row}
 use Rattle.p8_blocks.specs.Values.{HaveValues}
@@ -12,7 +12,7 @@ use Rattle.p8_blocks.proofs.Closed.{is_closed}
 use Rattle.p8_blocks.proofs.Following.{Has, found, Keeps, both, holds}
 use Rattle.p8_blocks.proofs.DeclarationWords.{Each, each, with}
 
-abbrev own : State → Bool
+abbrev own : LineState → Bool
 own state.End = true
 own state.ConHead = true
 own state.ConItem = true
@@ -22,12 +22,12 @@ own state.ConStep = true
 own state.ConMore = true
 own q = false
 
-closed : (q : State) → IsTrue (is_closed own q)
+closed : (q : LineState) → IsTrue (is_closed own q)
 closed state.End = refl
 closed q = refl
 
 -- what is left of a line at each state
-abbrev Goal : State → List Part → Type 0
+abbrev Goal : LineState → List Part → Type 0
 Goal state.End ps = ps ≡ []
 Goal state.ConHead ps = Has (if is_line_end ps then Some [] else constants ps)
 Goal state.ConItem ps = Has (constants ps) × Has (if is_line_end ps then Some [] else constants ps)
@@ -43,7 +43,7 @@ over ps h = subst (λ ps. Has (ended {A = Constant} ps)) (sym h) (found [])
 alone : (ps : List Part) → ps ≡ [] → Has (if is_line_end (line_end ∷ ps) then Some [] else constants (line_end ∷ ps))
 alone ps h = subst (λ ps. Has (if is_line_end (line_end ∷ ps) then Some [] else constants (line_end ∷ ps))) (sym h) (found [])
 
-keeps : (q : State) (ps : List Part) → IsTrue (own q) → Keeps part_of_piece Each Goal q ps
+keeps : (q : LineState) (ps : List Part) → IsTrue (own q) → Keeps part_of_piece Each Goal q ps
 keeps state.End ps h = record { arrows = tt; phrase = tt }
 keeps state.ConHead ps h = record {
   arrows = ((λ y. alone ps y), ((λ y n p. y n p), ((λ y p. y.0 p), tt)));

@@ -9,8 +9,8 @@ use Rattle.p8_lexer.specs.declared.word.Word.{Word}
 use Rattle.p8_lexer.specs.declared.word.Word.TheVariants as word
 use Rattle.p8_grammar.specs.Lexemes.{in_dat, in_data_item}
 use Rattle.p8_lexer.specs.Pieces.{Piece}
-use Rattle.p8_lines.specs.declared.state.State.{State}
-use Rattle.p8_lines.specs.declared.state.State.TheVariants as state
+use Rattle.p8_lines.specs.declared.state.LineState.{LineState}
+use Rattle.p8_lines.specs.declared.state.LineState.TheVariants as state
 use Rattle.p8_lines.specs.Signs.{takes_two, is_on_memory, takes_one}
 use Rattle.p8_lines.specs.Tokens.{LineToken}
 use Rattle.p8_lines.specs.Lines as lines
@@ -23,7 +23,7 @@ use Rattle.p8_blocks.proofs.DataMade as made
 use Rattle.p8_blocks.proofs.Closed.{is_closed}
 use Rattle.p8_blocks.proofs.DataWords.{Has, found, mapped, AreKnown, Keeps, holds}
 
-abbrev own : State → Bool
+abbrev own : LineState → Bool
 own state.End = true
 own state.LineEnd = true
 own state.DatHead = true
@@ -54,7 +54,7 @@ own state.MoreFlags = true
 own state.FlagEffect = true
 own q = false
 
-own_closed : (q : State) → IsTrue (is_closed own q)
+own_closed : (q : LineState) → IsTrue (is_closed own q)
 own_closed state.End = refl
 own_closed q = refl
 
@@ -85,7 +85,7 @@ module _ (F : Facts) where
   Makes E Takes read = (i : Instruction) → E i.effects → Takes i → Has (IsInstruction F) (read i)
 
   -- what is left of a line at each state
-  abbrev Goal : State → List Part → Type 0
+  abbrev Goal : LineState → List Part → Type 0
   Goal state.LineEnd ps = (i : Instruction) → IsInstruction F i → Has (IsInstruction F) (operands i (before_end ps))
   Goal state.DatHead ps = (p : Place) → Has (IfThere (IsLine F)) (maybe_line p (before_end ps))
   Goal state.DatLine ps = (p : Place) → Has (IfThere (IsLine F)) (maybe_line p (before_end ps))
@@ -239,7 +239,7 @@ module _ (F : Facts) where
 
   -- what each state owes
 
-  keeps : (q : State) (ps : List Part) → IsTrue (own q) → Keeps F Goal q ps
+  keeps : (q : LineState) (ps : List Part) → IsTrue (own q) → Keeps F Goal q ps
   keeps state.End ps h = record {
     arrows = tt;
     phrase = tt;
@@ -354,10 +354,10 @@ module _ (F : Facts) where
   }
   keeps q ps h = absurd cc
 
-empty_row : {q : State} {ts : List LineToken} → Row q [] ts → q ≡ state.End
+empty_row : {q : LineState} {ts : List LineToken} → Row q [] ts → q ≡ state.End
 empty_row lines.over = refl
 
-line_made : (F : Facts) (q : State) → IsTrue (own q) → (q ≡ state.End → ⊥) → ((row : List Part) → Goal F q row → (p : Place) → Has (IfThere (IsLine F)) (maybe_line p (before_end row))) → (row : List Piece) (ts : List LineToken) → Row q row ts → AreKnown F row → Has (IfThere (IsLine F)) (line_of_row row)
+line_made : (F : Facts) (q : LineState) → IsTrue (own q) → (q ≡ state.End → ⊥) → ((row : List Part) → Goal F q row → (p : Place) → Has (IfThere (IsLine F)) (maybe_line p (before_end row))) → (row : List Piece) (ts : List LineToken) → Row q row ts → AreKnown F row → Has (IfThere (IsLine F)) (line_of_row row)
 line_made F q o n goal [] ts r a = absurd (n (empty_row r))
 line_made F q o n goal (x ∷ row) ts r a = goal _ (holds F own own_closed (Goal F) tt (keeps F) r a o) (place_of x)
 

@@ -14,8 +14,8 @@ use Rattle.p8_lexer.specs.Pieces.{Piece}
 use Rattle.p8_lines.specs.declared.sign.Sign.{Sign}
 use Rattle.p8_lines.specs.declared.sign.Sign.TheVariants as sign
 use Rattle.p8_lines.specs.declared.arrow.Arrow.{Arrow}
-use Rattle.p8_lines.specs.declared.state.State.{State}
-use Rattle.p8_lines.specs.declared.state.State.TheVariants as state
+use Rattle.p8_lines.specs.declared.state.LineState.{LineState}
+use Rattle.p8_lines.specs.declared.state.LineState.TheVariants as state
 use Rattle.p8_lines.specs.Signs.{Matches, is_size, is_condition, takes_two, is_on_memory, takes_one, is_flag, is_write}
 use Rattle.p8_lines.specs.Diagram.{Phrase, choices}
 use Rattle.p8_lines.specs.Tokens as tokens
@@ -259,29 +259,29 @@ each F x R t u m s y = y (part_of_piece (piece t))
 
 -- what arrows owe, and what a state does
 
-abbrev pub Owes : Facts → (State → List Part → Type 0) → List Part → (Part → Type 0) → List Arrow → Type 0
+abbrev pub Owes : Facts → (LineState → List Part → Type 0) → List Part → (Part → Type 0) → List Arrow → Type 0
 Owes F Goal ps R [] = Unit {0}
 Owes F Goal ps R (a ∷ others) = (Goal a.to ps → Each F a.sign R) × Owes F Goal ps R others
 
-abbrev pub OwesBehind : Facts → (State → List Part → Type 0) → State → List Part → Option Phrase → Type 0
+abbrev pub OwesBehind : Facts → (LineState → List Part → Type 0) → LineState → List Part → Option Phrase → Type 0
 OwesBehind F Goal q ps None = Unit {0}
 OwesBehind F Goal q ps (Some h) =
     Owes F Goal ps (λ x. (e : Tree) (p : Place) → F.IsValue h.setting e → Goal q (tree e p ∷ x ∷ ps)) h.behind_name
     × Owes F Goal ps (λ x. (e : Tree) (p : Place) → F.IsValue h.setting e → Goal q (tree e p ∷ x ∷ ps)) h.behind_other
 
-pub record Keeps (F : Facts) (Goal : State → List Part → Type 0) (q : State) (ps : List Part) : Type 0 where
+pub record Keeps (F : Facts) (Goal : LineState → List Part → Type 0) (q : LineState) (ps : List Part) : Type 0 where
   pub arrows : Owes F Goal ps (λ x. Goal q (x ∷ ps)) (choices q).arrows
   pub phrase : OwesBehind F Goal q ps (choices q).phrase
 
-by_arrow : (F : Facts) (Goal : State → List Part → Type 0) (ps : List Part) (R : Part → Type 0) {l : List Arrow} {t : LineToken} {r : State} → Follows l t r → IsTrue (all_good (λ a. is_unlabelled a.sign) l) → IsKnown F (piece t) → Owes F Goal ps R l → Goal r ps → R (part_of_piece (piece t))
+by_arrow : (F : Facts) (Goal : LineState → List Part → Type 0) (ps : List Part) (R : Part → Type 0) {l : List Arrow} {t : LineToken} {r : LineState} → Follows l t r → IsTrue (all_good (λ a. is_unlabelled a.sign) l) → IsKnown F (piece t) → Owes F Goal ps R l → Goal r ps → R (part_of_piece (piece t))
 by_arrow F Goal ps R (here {a = a} {others = others} {t = t} is) g s owes y = each F a.sign R t (halves (is_unlabelled a.sign) (all_good (λ a. is_unlabelled a.sign) others) g).0 is s (owes.0 y)
 by_arrow F Goal ps R (further {a = a} {others = others} n f) g s owes y = by_arrow F Goal ps R f (halves (is_unlabelled a.sign) (all_good (λ a. is_unlabelled a.sign) others) g).1 s owes.1 y
 
-pick : (F : Facts) (Goal : State → List Part → Type 0) (ps : List Part) (R : Part → Type 0) (h : Phrase) (b : Bool) → Owes F Goal ps R h.behind_name → Owes F Goal ps R h.behind_other → Owes F Goal ps R (if b then h.behind_name else h.behind_other)
+pick : (F : Facts) (Goal : LineState → List Part → Type 0) (ps : List Part) (R : Part → Type 0) (h : Phrase) (b : Bool) → Owes F Goal ps R h.behind_name → Owes F Goal ps R h.behind_other → Owes F Goal ps R (if b then h.behind_name else h.behind_other)
 pick F Goal ps R h true x y = x
 pick F Goal ps R h false x y = y
 
-behind_phrase : (F : Facts) (Goal : State → List Part → Type 0) (q : State) (ps : List Part) (h : Phrase) (us : List LineToken) {t : LineToken} {r : State} → Follows (behind h us) t r → IsTrue (all_good_behind (λ a. is_unlabelled a.sign) h) → IsKnown F (piece t) → OwesBehind F Goal q ps (Some h) → Goal r ps → (e : Tree) (p : Place) → F.IsValue h.setting e → Goal q (tree e p ∷ part_of_piece (piece t) ∷ ps)
+behind_phrase : (F : Facts) (Goal : LineState → List Part → Type 0) (q : LineState) (ps : List Part) (h : Phrase) (us : List LineToken) {t : LineToken} {r : LineState} → Follows (behind h us) t r → IsTrue (all_good_behind (λ a. is_unlabelled a.sign) h) → IsKnown F (piece t) → OwesBehind F Goal q ps (Some h) → Goal r ps → (e : Tree) (p : Place) → F.IsValue h.setting e → Goal q (tree e p ∷ part_of_piece (piece t) ∷ ps)
 behind_phrase F Goal q ps h us f g s owes y = by_arrow F Goal ps (λ x. (e : Tree) (p : Place) → F.IsValue h.setting e → Goal q (tree e p ∷ x ∷ ps)) f (either (is_name us) (halves (all_good (λ a. is_unlabelled a.sign) h.behind_name) (all_good (λ a. is_unlabelled a.sign) h.behind_other) g)) s (pick F Goal ps (λ x. (e : Tree) (p : Place) → F.IsValue h.setting e → Goal q (tree e p ∷ x ∷ ps)) h (is_name us) owes.0 owes.1) y
   where
     either : (b : Bool) → (all_good (λ a. is_unlabelled a.sign) h.behind_name ≡ true) × (all_good (λ a. is_unlabelled a.sign) h.behind_other ≡ true) → IsTrue (all_good (λ a. is_unlabelled a.sign) (if b then h.behind_name else h.behind_other))
@@ -290,7 +290,7 @@ behind_phrase F Goal q ps h us f g s owes y = by_arrow F Goal ps (λ x. (e : Tre
 
 -- where a local label's name stands, and where none does
 
-unlabelled_arrows : (q : State) → is_labelled q ≡ false → IsTrue (all_good (λ a. is_unlabelled a.sign) (choices q).arrows)
+unlabelled_arrows : (q : LineState) → is_labelled q ≡ false → IsTrue (all_good (λ a. is_unlabelled a.sign) (choices q).arrows)
 unlabelled_arrows state.DatLabel h = absurd cc
 unlabelled_arrows state.CallLocal h = absurd cc
 unlabelled_arrows q h = refl
@@ -299,24 +299,24 @@ abbrev unlabelled_behind : Option Phrase → Bool
 unlabelled_behind None = true
 unlabelled_behind (Some h) = all_good_behind (λ a. is_unlabelled a.sign) h
 
-unlabelled_phrases : (q : State) → IsTrue (unlabelled_behind (choices q).phrase)
+unlabelled_phrases : (q : LineState) → IsTrue (unlabelled_behind (choices q).phrase)
 unlabelled_phrases state.End = refl
 unlabelled_phrases q = refl
 
-no_more : {l : List Arrow} {t : LineToken} {r : State} → Follows l t r → l ≡ [] → ⊥
+no_more : {l : List Arrow} {t : LineToken} {r : LineState} → Follows l t r → l ≡ [] → ⊥
 no_more (here x) e = absurd cc
 no_more (further x f) e = absurd cc
 
-by_label : (F : Facts) (Goal : State → List Part → Type 0) (ps : List Part) (R : Part → Type 0) (n : List ℕ) {a : Arrow} {t : LineToken} {r : State} → Follows (a ∷ []) t r → F.IsWord n → (Goal a.to ps → (n : List ℕ) (p : Place) → F.IsWord n → R (behind_colon n p)) → Goal r ps → R (behind_colon n t.place)
+by_label : (F : Facts) (Goal : LineState → List Part → Type 0) (ps : List Part) (R : Part → Type 0) (n : List ℕ) {a : Arrow} {t : LineToken} {r : LineState} → Follows (a ∷ []) t r → F.IsWord n → (Goal a.to ps → (n : List ℕ) (p : Place) → F.IsWord n → R (behind_colon n p)) → Goal r ps → R (behind_colon n t.place)
 by_label F Goal ps R n (here {t = t} is) s owes y = owes y n t.place s
 by_label F Goal ps R n (further x f) s owes y = absurd (no_more f refl)
 
-label_row : (F : Facts) (Goal : State → List Part → Type 0) (ps : List Part) (q r : State) (t : LineToken) → is_labelled q ≡ true → Follows (choices q).arrows t r → IsKnown F (piece_in q t) → Owes F Goal ps (λ x. Goal q (x ∷ ps)) (choices q).arrows → Goal r ps → Goal q (part_of_piece (piece_in q t) ∷ ps)
+label_row : (F : Facts) (Goal : LineState → List Part → Type 0) (ps : List Part) (q r : LineState) (t : LineToken) → is_labelled q ≡ true → Follows (choices q).arrows t r → IsKnown F (piece_in q t) → Owes F Goal ps (λ x. Goal q (x ∷ ps)) (choices q).arrows → Goal r ps → Goal q (part_of_piece (piece_in q t) ∷ ps)
 label_row F Goal ps state.DatLabel r t h f s owes y = by_label F Goal ps (λ x. Goal state.DatLabel (x ∷ ps)) (unwrap_or (name_in (lexeme t)) []) f s owes.0 y
 label_row F Goal ps state.CallLocal r t h f s owes y = by_label F Goal ps (λ x. Goal state.CallLocal (x ∷ ps)) (unwrap_or (name_in (lexeme t)) []) f s owes.0 y
 label_row F Goal ps q r t h f s owes y = absurd cc
 
-token_row : (F : Facts) (Goal : State → List Part → Type 0) (ps : List Part) (q r : State) (t : LineToken) → Follows (choices q).arrows t r → IsKnown F (piece_in q t) → Owes F Goal ps (λ x. Goal q (x ∷ ps)) (choices q).arrows → Goal r ps → Goal q (part_of_piece (piece_in q t) ∷ ps)
+token_row : (F : Facts) (Goal : LineState → List Part → Type 0) (ps : List Part) (q r : LineState) (t : LineToken) → Follows (choices q).arrows t r → IsKnown F (piece_in q t) → Owes F Goal ps (λ x. Goal q (x ∷ ps)) (choices q).arrows → Goal r ps → Goal q (part_of_piece (piece_in q t) ∷ ps)
 token_row F Goal ps q r t f s owes y = go (is_labelled q) refl
   where
     go : (b : Bool) → is_labelled q ≡ b → Goal q (part_of_piece (piece_in q t) ∷ ps)
@@ -325,8 +325,8 @@ token_row F Goal ps q r t f s owes y = go (is_labelled q) refl
         let same = plain_piece q t e in
         subst (λ x. Goal q (part_of_piece x ∷ ps)) (sym same) (by_arrow F Goal ps (λ x. Goal q (x ∷ ps)) f (unlabelled_arrows q e) (subst (IsKnown F) same s) owes y)
 
-module _ (F : Facts) (own : State → Bool) (closed : (q : State) → IsTrue (is_closed own q)) (Goal : State → List Part → Type 0) (at_end : Goal state.End []) (keeps : (q : State) (ps : List Part) → IsTrue (own q) → Keeps F Goal q ps) where
-  pub holds : {q : State} {row : List Piece} {ts : List LineToken} → Row q row ts → AreKnown F row → IsTrue (own q) → Goal q (map part_of_piece row)
+module _ (F : Facts) (own : LineState → Bool) (closed : (q : LineState) → IsTrue (is_closed own q)) (Goal : LineState → List Part → Type 0) (at_end : Goal state.End []) (keeps : (q : LineState) (ps : List Part) → IsTrue (own q) → Keeps F Goal q ps) where
+  pub holds : {q : LineState} {row : List Piece} {ts : List LineToken} → Row q row ts → AreKnown F row → IsTrue (own q) → Goal q (map part_of_piece row)
   holds over a h = at_end
   holds (token {q = q} {r = r} {row = row} {t = t} f y) a h =
       token_row F Goal (map part_of_piece row) q r t f a.0 ((keeps q (map part_of_piece row) h).arrows) (holds y a.1 (own_next own closed q r t f h))

@@ -3,7 +3,7 @@ use Rattle.std.proofs.Common.{◌≡◌, ◌⊎◌, inl, inr, List, [], ◌∷�
 use Rattle.p8_tree.specs.Sources.{MethodTree}
 use Rattle.p8_columns.specs.Lines as lines
 use Rattle.p8_columns.proofs.Meaning.{fit_together}
-use Rattle.p8_lines.specs.declared.state.State.TheVariants as state
+use Rattle.p8_lines.specs.declared.state.LineState.TheVariants as state
 use Rattle.p8_lines.specs.Tokens.{LineToken}
 use Rattle.p8_declarations.specs.Methods.{method_of_row}
 use Rattle.p8_blocks.specs.Reading.{Part, method}

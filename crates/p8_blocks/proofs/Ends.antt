@@ -8,19 +8,19 @@ use Rattle.p8_lines.specs.Signs.{Matches}
 use Rattle.p8_lines.specs.declared.sign.Sign.{Sign}
 use Rattle.p8_lines.specs.declared.sign.Sign.TheVariants as sign
 use Rattle.p8_lines.specs.declared.arrow.Arrow.{Arrow}
-use Rattle.p8_lines.specs.declared.state.State.{State}
-use Rattle.p8_lines.specs.declared.state.State.TheVariants as state
+use Rattle.p8_lines.specs.declared.state.LineState.{LineState}
+use Rattle.p8_lines.specs.declared.state.LineState.TheVariants as state
 use Rattle.p8_lines.specs.Diagram.{Phrase, choices}
 use Rattle.p8_lines.specs.Tokens.{LineToken, word, string_length}
 use Rattle.p8_lines.specs.Lines.{Row, over, token, phrase, Follows}
 use Rattle.p8_lines.proofs.Arrows.{all_good, taken, all_good_behind, taken_behind}
 
-abbrev pub is_over : State → Bool
+abbrev pub is_over : LineState → Bool
 is_over state.End = true
 is_over q = false
 
 -- the states of an item, and of OTHER
-abbrev pub in_item : State → Bool
+abbrev pub in_item : LineState → Bool
 in_item state.CaseItem = true
 in_item state.CaseTest = true
 in_item state.CaseRange = true
@@ -51,7 +51,7 @@ same false b = if b then false else true
 abbrev stays : Bool → Arrow → Bool
 stays i a = if is_over a.to then is_last i a.sign else same i (in_item a.to)
 
-arrows_stay : (q : State) → IsTrue (all_good (stays (in_item q)) (choices q).arrows)
+arrows_stay : (q : LineState) → IsTrue (all_good (stays (in_item q)) (choices q).arrows)
 arrows_stay state.End = refl
 arrows_stay q = refl
 
@@ -59,7 +59,7 @@ abbrev phrase_stays : Bool → Option Phrase → Bool
 phrase_stays i None = true
 phrase_stays i (Some h) = all_good_behind (stays i) h
 
-phrases_stay : (q : State) → IsTrue (phrase_stays (in_item q) (choices q).phrase)
+phrases_stay : (q : LineState) → IsTrue (phrase_stays (in_item q) (choices q).phrase)
 phrases_stay state.End = refl
 phrases_stay q = refl
 
@@ -97,25 +97,25 @@ pub behind_all : {ts : List LineToken} {w : Word} (us : List LineToken) → Last
 behind_all [] l = l
 behind_all (u ∷ us) l = behind u (behind_all us l)
 
-pub none_left : {q : State} {row : List Piece} {ts : List LineToken} → Row q row ts → IsTrue (is_over q) → ts ≡ []
+pub none_left : {q : LineState} {row : List Piece} {ts : List LineToken} → Row q row ts → IsTrue (is_over q) → ts ≡ []
 none_left over h = refl
 none_left (token {q = state.End} f x) h = absurd (nothing f)
   where
-    nothing : {t : LineToken} {r : State} → Follows [] t r → ⊥
+    nothing : {t : LineToken} {r : LineState} → Follows [] t r → ⊥
     nothing f = elim f [ ]
 none_left (token f x) h = absurd cc
 none_left (phrase {q = state.End} others p e f x) h = absurd cc
 none_left (phrase others p e f x) h = absurd cc
 
 -- a step from a state with a token that takes such an arrow
-step : {r : State} {row : List Piece} {ts : List LineToken} (i : Bool) (t : LineToken) (a : Arrow) → Matches a.sign (word t) (string_length t) → a.to ≡ r → IsTrue (stays i a) → Row r row ts → ((j : Bool) → is_over r ≡ false → in_item r ≡ j → Last ts (last_word j)) → Last (t ∷ ts) (last_word i)
+step : {r : LineState} {row : List Piece} {ts : List LineToken} (i : Bool) (t : LineToken) (a : Arrow) → Matches a.sign (word t) (string_length t) → a.to ≡ r → IsTrue (stays i a) → Row r row ts → ((j : Bool) → is_over r ≡ false → in_item r ≡ j → Last ts (last_word j)) → Last (t ∷ ts) (last_word i)
 step {r} {row} {ts} i t a m e h x later = go (is_over r) refl (subst (λ r. IsTrue (if is_over r then is_last i a.sign else same i (in_item r))) e h)
   where
     go : (b : Bool) → is_over r ≡ b → IsTrue (if b then is_last i a.sign else same i (in_item r)) → Last (t ∷ ts) (last_word i)
     go true o h = record { before = []; token = t; split = ap (λ ts. t ∷ ts) (none_left x o); is = last_is i a.sign (word t) (string_length t) m h }
     go false o h = behind t (subst (λ j. Last ts (last_word j)) (same_is i (in_item r) h) (later (in_item r) o refl))
 
-pub row_ends : {q : State} {row : List Piece} {ts : List LineToken} → Row q row ts → is_over q ≡ false → Last ts (last_word (in_item q))
+pub row_ends : {q : LineState} {row : List Piece} {ts : List LineToken} → Row q row ts → is_over q ≡ false → Last ts (last_word (in_item q))
 row_ends over n = absurd cc
 row_ends (token {q = q} {t = t} {ts = ts} f x) n =
     let y = taken (stays (in_item q)) f (arrows_stay q) in

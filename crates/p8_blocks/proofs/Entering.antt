@@ -16,8 +16,8 @@ use Rattle.p8_columns.specs.Lines as lines
 use Rattle.p8_columns.specs.Lines.{Kind, Plain, If, ElseIf, Else, Repeat, End, Case, Item, Other, is_plain_repeat}
 use Rattle.p8_columns.specs.Columns.{open_for, innermost, last_up_to, IsAt, HasRoom, HasChain, FitsAs}
 use Rattle.p8_tree.specs.declared.faults.Fault.{Fault}
-use Rattle.p8_lines.specs.declared.state.State.{State}
-use Rattle.p8_lines.specs.declared.state.State.TheVariants as state
+use Rattle.p8_lines.specs.declared.state.LineState.{LineState}
+use Rattle.p8_lines.specs.declared.state.LineState.TheVariants as state
 use Rattle.p8_lines.specs.Tokens.{LineToken, word}
 use Rattle.p8_lines.specs.Lines.{Outcome, read, refused, number_of, Reads}
 use Rattle.p8_lexer.specs.Pieces.{Piece}
@@ -79,11 +79,11 @@ module _ (ls : List lines.Line) (b : Bool) (t : LineToken) (w : Word) (p : Place
   pub nothing_fits : goes_on_chain b w ≡ false → ends_loop b w ≡ false → HasRoom room.Nothing (innermost p.column ls) → Enters ls b t (barred (number_of in_method w))
   nothing_fits h g c = subst (λ w. Enters ls b t (barred (number_of in_method w))) sw (after_other (is_word (goes_on_chain b) h) (is_word (ends_loop b) g) (at_column (λ n. HasRoom room.Nothing (innermost n ls)) c))
 
-  pub is_too_deep : (q : State) → IsTooDeep ls q t → IsTrue (opens q w) × (64 ≤ length (open_for p.column ls) + 1)
+  pub is_too_deep : (q : LineState) → IsTooDeep ls q t → IsTrue (opens q w) × (64 ≤ length (open_for p.column ls) + 1)
   is_too_deep q h = (ap (opens q) (sym sw) ∙ h.0, subst (λ n. 64 ≤ length (open_for n ls) + 1) (sym same_column) h.1)
 
 -- a line that is entered so and is of such a kind fits
-pub fits : {ls : List lines.Line} {b : Bool} {t : LineToken} {q : State} (k : Kind) → Enters ls b t (from q) → IsTrue (suits q k) → FitsAs k t.place.column ls
+pub fits : {ls : List lines.Line} {b : Bool} {t : LineToken} {q : LineState} (k : Kind) → Enters ls b t (from q) → IsTrue (suits q k) → FitsAs k t.place.column ls
 fits (ElseIf n e) (goes_on w c) s = c
 fits Else (goes_on w c) s = c
 fits k (goes_on w c) s = absurd cc
@@ -106,31 +106,31 @@ module _ {ts us : List LineToken} {b : Option Place} {first : First} (s : Inner 
   pub barred_fails : (n : ℕ) → Enters ls (is_begun b) s.token (barred n) → Fails (at (method m ls ∷ ps) b) ts n first.place
   barred_fails n e = subst (λ p. Fails (at (method m ls ∷ ps) b) ts n p) s.is.same_place (back (entry_fails s.not_end s.no_head e))
 
-  pub loop_fails : (q : State) → Enters ls (is_begun b) s.token (from q) → HasNoLoop ls q s.token → Fails (at (method m ls ∷ ps) b) ts (refusal_number LoopWord) first.place
+  pub loop_fails : (q : LineState) → Enters ls (is_begun b) s.token (from q) → HasNoLoop ls q s.token → Fails (at (method m ls ∷ ps) b) ts (refusal_number LoopWord) first.place
   loop_fails q e h = subst (λ p. Fails (at (method m ls ∷ ps) b) ts (refusal_number LoopWord) p) s.is.same_place (back (no_loop_fails s.not_end s.no_head e h))
 
-  to_tokens : {q : State} {o : Outcome} → Reads q ts o → Reads q (s.token ∷ us) o
+  to_tokens : {q : LineState} {o : Outcome} → Reads q ts o → Reads q (s.token ∷ us) o
   to_tokens {q} {o} r = subst (λ ts. Reads q ts o) s.tokens r
 
-  pub deep_fails : (q : State) (n : ℕ) (p : Place) → Enters ls (is_begun b) s.token (from q) → ¬ HasNoLoop ls q s.token → IsTooDeep ls q s.token → TellsTooDeep q ts first.place first.begin n p → Fails (at (method m ls ∷ ps) b) ts n p
+  pub deep_fails : (q : LineState) (n : ℕ) (p : Place) → Enters ls (is_begun b) s.token (from q) → ¬ HasNoLoop ls q s.token → IsTooDeep ls q s.token → TellsTooDeep q ts first.place first.begin n p → Fails (at (method m ls ∷ ps) b) ts n p
   deep_fails q n p e l d (too_deep {o = o} r h) =
       let same = s.is.same_begin in
       subst (λ p. Fails (at (method m ls ∷ ps) b) ts (refusal_number TooNested) p) same
       (back (too_deep_fails s.not_end s.no_head e d (to_tokens r) (subst (λ p. ¬ IsRefusedAt p o) (sym s.is.same_place) h)))
   deep_fails q n p e l d (refused_there p' h r) = back (line_fails s.not_end s.no_head e l (λ _. h ∙ sym s.is.same_place) (to_tokens r))
 
-  pub reading_fails : (q : State) → MayRead ls (is_begun b) s.token q → (f : Fault) → Reads q ts (refused f.number f.place) → Fails (at (method m ls ∷ ps) b) ts f.number f.place
+  pub reading_fails : (q : LineState) → MayRead ls (is_begun b) s.token q → (f : Fault) → Reads q ts (refused f.number f.place) → Fails (at (method m ls ∷ ps) b) ts f.number f.place
   reading_fails q r f h = back (line_fails s.not_end s.no_head r.enters r.loops (λ d. absurd (r.shallow d)) (to_tokens h))
 
 -- a line that is too deep
-pub deep_told : {q : State} {ts : List LineToken} {row : List Piece} {rest : List LineToken} (o p : Place) → Reads q ts (read row rest) → (f : Fault) → (f.number ≡ refusal_number TooNested) × (f.place ≡ p) → TellsTooDeep q ts o p f.number f.place
+pub deep_told : {q : LineState} {ts : List LineToken} {row : List Piece} {rest : List LineToken} (o p : Place) → Reads q ts (read row rest) → (f : Fault) → (f.number ≡ refusal_number TooNested) × (f.place ≡ p) → TellsTooDeep q ts o p f.number f.place
 deep_told {q} {ts} {row} {rest} o p r f h =
     subst (λ n. TellsTooDeep q ts o p n f.place) (sym h.0) (subst (λ x. TellsTooDeep q ts o p (refusal_number TooNested) x) (sym h.1) (too_deep r (λ x. x)))
 
-pub deep_elsewhere : {q : State} {ts : List LineToken} (o p : Place) (g : Fault) → Reads q ts (refused g.number g.place) → ¬ (g.place ≡ o) → (f : Fault) → (f.number ≡ refusal_number TooNested) × (f.place ≡ p) → TellsTooDeep q ts o p f.number f.place
+pub deep_elsewhere : {q : LineState} {ts : List LineToken} (o p : Place) (g : Fault) → Reads q ts (refused g.number g.place) → ¬ (g.place ≡ o) → (f : Fault) → (f.number ≡ refusal_number TooNested) × (f.place ≡ p) → TellsTooDeep q ts o p f.number f.place
 deep_elsewhere {q} {ts} o p g r n f h =
     subst (λ n. TellsTooDeep q ts o p n f.place) (sym h.0) (subst (λ x. TellsTooDeep q ts o p (refusal_number TooNested) x) (sym h.1) (too_deep r n))
 
 -- whether its line of the text is begun, as the code has it
-pub may_read : {ts us : List LineToken} {b : Option Place} {first : First} {ls : List lines.Line} {q : State} (s : Inner ts us b first) → MayRead ls first.begun s.token q → MayRead ls (is_begun b) s.token q
+pub may_read : {ts us : List LineToken} {b : Option Place} {first : First} {ls : List lines.Line} {q : LineState} (s : Inner ts us b first) → MayRead ls first.begun s.token q → MayRead ls (is_begun b) s.token q
 may_read {ls = ls} {q = q} s r = subst (λ c. MayRead ls c s.token q) (sym s.is.same_begun) r

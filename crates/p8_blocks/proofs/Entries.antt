@@ -12,8 +12,8 @@ use Rattle.p8_columns.specs.declared.room.Chain.{Chain}
 use Rattle.p8_columns.specs.declared.room.Chain.TheVariants as chain
 use Rattle.p8_columns.specs.Lines.{Kind, If, ElseIf, Line, is_arm, is_else, is_plain_repeat}
 use Rattle.p8_columns.specs.Columns.{OpenBlock, innermost, last_up_to, IsAt, HasRoom, HasChain}
-use Rattle.p8_lines.specs.declared.state.State.{State}
-use Rattle.p8_lines.specs.declared.state.State.TheVariants as state
+use Rattle.p8_lines.specs.declared.state.LineState.{LineState}
+use Rattle.p8_lines.specs.declared.state.LineState.TheVariants as state
 use Rattle.p8_lines.specs.Tokens.{LineToken, word}
 use Rattle.p8_lines.specs.Lines.{number_of}
 use Rattle.p8_blocks.specs.Reading.{Entry, from, barred, Enters, goes_on, chain_over, no_chain, loop_end, no_loop, statement, item, after_other, goes_on_chain, ends_loop}
@@ -129,10 +129,10 @@ module _ (ls : List Line) (b : Bool) (t : LineToken) where
   pub one_entry : {e f : Entry} → Enters ls b t e → Enters ls b t f → e ≡ f
   one_entry x y = same (goes_on_chain b (word t)) (ends_loop b (word t)) (entered x) (entered y)
 
-  pub one_state : {q r : State} → Enters ls b t (from q) → Enters ls b t (from r) → q ≡ r
+  pub one_state : {q r : LineState} → Enters ls b t (from q) → Enters ls b t (from r) → q ≡ r
   one_state x y = let z = one_entry x y in cc
 
-  pub not_barred : {q : State} {n : ℕ} → Enters ls b t (from q) → Enters ls b t (barred n) → ⊥
+  pub not_barred : {q : LineState} {n : ℕ} → Enters ls b t (from q) → Enters ls b t (barred n) → ⊥
   not_barred x y = let z = one_entry x y in cc
 
   pub one_number : {n m : ℕ} → Enters ls b t (barred n) → Enters ls b t (barred m) → n ≡ m

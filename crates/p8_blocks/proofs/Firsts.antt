@@ -12,8 +12,8 @@ use Rattle.p8_expr.specs.Words.{lexeme_of_word}
 use Rattle.p8_lexer.specs.Pieces.{Piece}
 use Rattle.p8_lines.specs.declared.sign.Sign.{Sign}
 use Rattle.p8_lines.specs.declared.sign.Sign.TheVariants as sign
-use Rattle.p8_lines.specs.declared.state.State.{State}
-use Rattle.p8_lines.specs.declared.state.State.TheVariants as state
+use Rattle.p8_lines.specs.declared.state.LineState.{LineState}
+use Rattle.p8_lines.specs.declared.state.LineState.TheVariants as state
 use Rattle.p8_lines.specs.Signs.{is_size, is_condition, takes_two, is_on_memory, takes_one, Matches}
 use Rattle.p8_lines.specs.Diagram.{Phrase, choices}
 use Rattle.p8_lines.specs.Tokens.{LineToken, word, lexeme, term, string_length}
@@ -28,11 +28,11 @@ use Rattle.p8_blocks.specs.Files.{is_chain_word, is_loop_end_word}
 use Rattle.p8_blocks.proofs.Inside.{other_plain}
 
 -- The first token of a line takes an arrow, or begins an expression.
-pub data Taken (q : State) (t : LineToken) : Type 0 where
-  by_arrow : {r : State} → Follows (choices q).arrows t r → Taken q t
+pub data Taken (q : LineState) (t : LineToken) : Type 0 where
+  by_arrow : {r : LineState} → Follows (choices q).arrows t r → Taken q t
   by_phrase : (h : Phrase) → (choices q).phrase ≡ Some h → IsFront h.setting (term t ∷ []) → Taken q t
 
-pub first_taken : {q : State} {row : List Piece} {ts : List LineToken} (t : LineToken) (us : List LineToken) → Row q row ts → ts ≡ t ∷ us → Taken q t
+pub first_taken : {q : LineState} {row : List Piece} {ts : List LineToken} (t : LineToken) (us : List LineToken) → Row q row ts → ts ≡ t ∷ us → Taken q t
 first_taken t us over e = absurd cc
 first_taken t us (line_specs.token {q = q} {r = r} {t = first} f x) e =
     let firsts : first ≡ t = cc in
@@ -145,7 +145,7 @@ front_inside s t f = go (is_apart (word t)) refl
         absurd (dead s (term t ∷ []) (ap (λ o. option_and_then (λ st. walk st []) o) none) f)
 
 -- the states from which lines are read that begin with none of them
-abbrev pub begins_inside : State → Bool
+abbrev pub begins_inside : LineState → Bool
 begins_inside state.ConItem = true
 begins_inside state.VarLine = true
 begins_inside state.ObjLine = true
@@ -154,7 +154,7 @@ begins_inside state.Statement = true
 begins_inside state.CaseItem = true
 begins_inside q = false
 
-arrows_inside : (q : State) → IsTrue (begins_inside q) → IsTrue (all_good (λ a. stays_inside a.sign) (choices q).arrows)
+arrows_inside : (q : LineState) → IsTrue (begins_inside q) → IsTrue (all_good (λ a. stays_inside a.sign) (choices q).arrows)
 arrows_inside state.ConItem h = refl
 arrows_inside state.VarLine h = refl
 arrows_inside state.ObjLine h = refl
@@ -163,7 +163,7 @@ arrows_inside state.Statement h = refl
 arrows_inside state.CaseItem h = refl
 arrows_inside q h = absurd cc
 
-pub first_inside : (q : State) (t : LineToken) → IsTrue (begins_inside q) → Taken q t → Inside (word t)
+pub first_inside : (q : LineState) (t : LineToken) → IsTrue (begins_inside q) → Taken q t → Inside (word t)
 first_inside q t h (by_arrow f) =
     let x = taken (λ a. stays_inside a.sign) f (arrows_inside q h) in
     inside (word t) (sign_inside x.arrow.sign (word t) (string_length t) x.is x.good)
@@ -213,7 +213,7 @@ inner w h = go (is_end w) refl h
     go true e h = absurd cc
     go false e h = record { not_end = λ x. (let z = sym (ap is_end x) ∙ e in cc); not_head = h }
 
-pub first_inner : (q : State) (t : LineToken) → IsTrue (begins_line q) → Taken q t → Inner (word t)
+pub first_inner : (q : LineState) (t : LineToken) → IsTrue (begins_line q) → Taken q t → Inner (word t)
 first_inner state.Statement t h x = let y = first_inside state.Statement t refl x in record { not_end = y.not_end; not_head = y.not_head }
 first_inner state.CaseItem t h x = let y = first_inside state.CaseItem t refl x in record { not_end = y.not_end; not_head = y.not_head }
 first_inner state.ChainLine t h x = inner (word t) (not_apart (is_chain_word (word t)) (is_outside (word t)) (chain_words (word t)) (first_of_chain t x))

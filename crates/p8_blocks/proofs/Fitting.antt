@@ -10,8 +10,8 @@ use Rattle.p8_tree.specs.Refusals.{refusal_number}
 use Rattle.p8_grammar.specs.Lexemes.{in_declaration, is_dat}
 use Rattle.p8_columns.specs.Lines as lines
 use Rattle.p8_lexer.specs.Pieces.{Piece}
-use Rattle.p8_lines.specs.declared.state.State.{State}
-use Rattle.p8_lines.specs.declared.state.State.TheVariants as state
+use Rattle.p8_lines.specs.declared.state.LineState.{LineState}
+use Rattle.p8_lines.specs.declared.state.LineState.TheVariants as state
 use Rattle.p8_lines.specs.Diagram.{setting_at}
 use Rattle.p8_lines.specs.Tokens.{LineToken, word}
 use Rattle.p8_lines.specs.Lines as line_specs
@@ -39,7 +39,7 @@ use Rattle.p8_blocks.proofs.Pieces.{is_labelled}
 
 -- lines within the limits
 
-pub within : {V : Type 0} {value : List Piece → Option V} {q : State} {us : List LineToken} {v : V} {row : List Piece} → Valued any_height value q us v → Leads q us row state.End → Valued within_limits value q us v
+pub within : {V : Type 0} {value : List Piece → Option V} {q : LineState} {us : List LineToken} {v : V} {row : List Piece} → Valued any_height value q us v → Leads q us row state.End → Valued within_limits value q us v
 within {value = value} {row = row} x l = let o = one_row [] [] x.line (leads_row l) refl in record { row = row; line = l; is = ap value (sym o.pieces) ∙ x.is }
 
 pub opens_within : (w : Word) (us : List LineToken) (p : Part) {row : List Piece} → OpensAs any_height w us p → Leads (head_state w) us row state.End → OpensAs within_limits w us p
@@ -67,14 +67,14 @@ some_first [] (y ∷ ys) u zs = (y, ys ++ u ∷ zs, refl)
 some_first (x ∷ xs) ys u zs = (x, xs ++ (ys ++ u ∷ zs), refl)
 
 -- what begins a longer line is no line
-pub not_row : {q : State} (vs : List LineToken) (u : LineToken) → line_specs.Begins q (vs ++ u ∷ []) → (row : List Piece) → ¬ Row q row vs
+pub not_row : {q : LineState} (vs : List LineToken) (u : LineToken) → line_specs.Begins q (vs ++ u ∷ []) → (row : List Piece) → ¬ Row q row vs
 not_row vs u b row r =
     let o = one_row (u ∷ b.0) [] r b.2 (sym (append_assoc vs (u ∷ []) b.0) ∙ sym (append-nil ((vs ++ u ∷ []) ++ b.0))) in
     let z = cancel vs [] (u ∷ b.0) (append-nil vs ∙ o.tokens ∙ append_assoc vs (u ∷ []) b.0) in
     cc
 
 -- A line that is read from this state after these tokens of its own, where what follows them is so.
-pub record AtHand (x : Progress) (pre : List LineToken) (q : State) (So : List LineToken → Type 0) : Type 0 where
+pub record AtHand (x : Progress) (pre : List LineToken) (q : LineState) (So : List LineToken → Type 0) : Type 0 where
   pub rows : (y : Progress) (xs ys zs : List LineToken) → Line any_height x xs y → xs ++ ys ≡ pre ++ zs → So zs → (row : List Piece) × (us : List LineToken) × Row q row us × (xs ≡ pre ++ us)
   pub completes : (row : List Piece) (us : List LineToken) → Row q row us → So us → (y : Progress) × Line any_height x (pre ++ us) y
   pub fits : (row : List Piece) (us : List LineToken) → Leads q us row state.End → So us → (y : Progress) × Line within_limits x (pre ++ us) y × AllShallow y.0
@@ -110,7 +110,7 @@ module _ (all : AllValues) where
     refusal = unfit n number;
   }
 
-  module _ {x : Progress} {ts pre : List LineToken} {q : State} {So : List LineToken → Type 0} (w : Walk within_limits x ts) (h : AllShallow x.0) (a : AtHand x pre q So) where
+  module _ {x : Progress} {ts pre : List LineToken} {q : LineState} {So : List LineToken → Type 0} (w : Walk within_limits x ts) (h : AllShallow x.0) (a : AtHand x pre q So) where
     begins_low : (vs : List LineToken) (y : LowLine q vs) → So (vs ++ y.rest) → BeginsWithinLimits (ts ++ (pre ++ vs))
     begins_low vs y s =
         let f = a.fits y.row (vs ++ y.rest) y.leads s in

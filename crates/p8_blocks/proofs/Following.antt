@@ -10,8 +10,8 @@ use Rattle.p8_grammar.proofs.Live.{one_tree}
 use Rattle.p8_lexer.specs.Pieces.{Piece, tree}
 use Rattle.p8_lines.specs.declared.sign.Sign.{Sign}
 use Rattle.p8_lines.specs.declared.arrow.Arrow.{Arrow}
-use Rattle.p8_lines.specs.declared.state.State.{State}
-use Rattle.p8_lines.specs.declared.state.State.TheVariants as state
+use Rattle.p8_lines.specs.declared.state.LineState.{LineState}
+use Rattle.p8_lines.specs.declared.state.LineState.TheVariants as state
 use Rattle.p8_lines.specs.Signs.{Matches}
 use Rattle.p8_lines.specs.Diagram.{Phrase, choices, behind_in}
 use Rattle.p8_lines.specs.Tokens as tokens
@@ -65,44 +65,44 @@ is_value_in (Some h) = is_value h.setting
 
 -- What these arrows owe: where the goal holds of the parts at the state to which one of them leads, this holds of each
 -- part that a token of that arrow is.
-abbrev pub Owes : {P : Type 0} → (Sign → (P → Type 0) → Type 0) → (State → List P → Type 0) → List P → (P → Type 0) → List Arrow → Type 0
+abbrev pub Owes : {P : Type 0} → (Sign → (P → Type 0) → Type 0) → (LineState → List P → Type 0) → List P → (P → Type 0) → List Arrow → Type 0
 Owes Each Goal ps R [] = Unit {0}
 Owes Each Goal ps R (a ∷ others) = (Goal a.to ps → Each a.sign R) × Owes Each Goal ps R others
 
 -- with an expression before that part
-abbrev pub Behind : {P : Type 0} → (Piece → P) → (State → List P → Type 0) → State → List P → (value alone : Bool) → P → Type 0
+abbrev pub Behind : {P : Type 0} → (Piece → P) → (LineState → List P → Type 0) → LineState → List P → (value alone : Bool) → P → Type 0
 Behind part Goal q ps v b x = (e : Tree) (p : Place) → Known v b e → Goal q (part (tree e p) ∷ x ∷ ps)
 
-abbrev pub OwesBehind : {P : Type 0} → (Piece → P) → (Sign → (P → Type 0) → Type 0) → (State → List P → Type 0) → State → List P → Option Phrase → Type 0
+abbrev pub OwesBehind : {P : Type 0} → (Piece → P) → (Sign → (P → Type 0) → Type 0) → (LineState → List P → Type 0) → LineState → List P → Option Phrase → Type 0
 OwesBehind part Each Goal q ps None = Unit {0}
 OwesBehind part Each Goal q ps (Some h) = Owes Each Goal ps (Behind part Goal q ps (is_value h.setting) true) h.behind_name × Owes Each Goal ps (Behind part Goal q ps (is_value h.setting) false) h.behind_other
 
 -- what a state owes
-pub record Keeps {P : Type 0} (part : Piece → P) (Each : Sign → (P → Type 0) → Type 0) (Goal : State → List P → Type 0) (q : State) (ps : List P) : Type 0 where
+pub record Keeps {P : Type 0} (part : Piece → P) (Each : Sign → (P → Type 0) → Type 0) (Goal : LineState → List P → Type 0) (q : LineState) (ps : List P) : Type 0 where
   pub arrows : Owes Each Goal ps (λ x. Goal q (x ∷ ps)) (choices q).arrows
   pub phrase : OwesBehind part Each Goal q ps (choices q).phrase
 
 -- what the arrows after an expression owe, be it a name or not
-abbrev pub Outs : {P : Type 0} → (Piece → P) → (Sign → (P → Type 0) → Type 0) → (State → List P → Type 0) → State → List P → Bool → Type 0
+abbrev pub Outs : {P : Type 0} → (Piece → P) → (Sign → (P → Type 0) → Type 0) → (LineState → List P → Type 0) → LineState → List P → Bool → Type 0
 Outs part Each Goal q ps b = Owes Each Goal ps (Behind part Goal q ps (is_value_in (choices q).phrase) b) (behind_in (choices q).phrase)
 
-pub both : {P : Type 0} (part : Piece → P) (Each : Sign → (P → Type 0) → Type 0) (Goal : State → List P → Type 0) (q : State) (ps : List P) → ((b : Bool) → Outs part Each Goal q ps b) → Outs part Each Goal q ps true × Outs part Each Goal q ps false
+pub both : {P : Type 0} (part : Piece → P) (Each : Sign → (P → Type 0) → Type 0) (Goal : LineState → List P → Type 0) (q : LineState) (ps : List P) → ((b : Bool) → Outs part Each Goal q ps b) → Outs part Each Goal q ps true × Outs part Each Goal q ps false
 both part Each Goal q ps x = (x true, x false)
 
 module _ {P : Type 0} (part : Piece → P) (Each : Sign → (P → Type 0) → Type 0) (each : (s : Sign) (R : P → Type 0) (t : LineToken) → Matches s (tokens.word t) (string_length t) → Each s R → R (part (piece t))) where
-  by_arrow : (Goal : State → List P → Type 0) (ps : List P) (R : P → Type 0) {l : List Arrow} {t : LineToken} {r : State} → Follows l t r → Owes Each Goal ps R l → Goal r ps → R (part (piece t))
+  by_arrow : (Goal : LineState → List P → Type 0) (ps : List P) (R : P → Type 0) {l : List Arrow} {t : LineToken} {r : LineState} → Follows l t r → Owes Each Goal ps R l → Goal r ps → R (part (piece t))
   by_arrow Goal ps R (here {a = a} {t = t} is) owes y = each a.sign R t is (owes.0 y)
   by_arrow Goal ps R (further n f) owes y = by_arrow Goal ps R f owes.1 y
 
-  behind_phrase : (Goal : State → List P → Type 0) (q : State) (ps : List P) (h : Phrase) (us : List LineToken) {t : LineToken} {r : State} → Follows (behind h us) t r → OwesBehind part Each Goal q ps (Some h) → Goal r ps → (e : Tree) (p : Place) → Known (is_value h.setting) (is_name us) e → Goal q (part (tree e p) ∷ part (piece t) ∷ ps)
+  behind_phrase : (Goal : LineState → List P → Type 0) (q : LineState) (ps : List P) (h : Phrase) (us : List LineToken) {t : LineToken} {r : LineState} → Follows (behind h us) t r → OwesBehind part Each Goal q ps (Some h) → Goal r ps → (e : Tree) (p : Place) → Known (is_value h.setting) (is_name us) e → Goal q (part (tree e p) ∷ part (piece t) ∷ ps)
   behind_phrase Goal q ps h us {t = t} {r = r} f owes y = go (is_name us) f
     where
       go : (b : Bool) → Follows (if b then h.behind_name else h.behind_other) t r → (e : Tree) (p : Place) → Known (is_value h.setting) b e → Goal q (part (tree e p) ∷ part (piece t) ∷ ps)
       go true f = by_arrow Goal ps (Behind part Goal q ps (is_value h.setting) true) f owes.0 y
       go false f = by_arrow Goal ps (Behind part Goal q ps (is_value h.setting) false) f owes.1 y
 
-  module _ (own : State → Bool) (closed : (q : State) → IsTrue (is_closed own q)) (labels : (own state.DatLabel ≡ false) × (own state.CallLocal ≡ false)) (Goal : State → List P → Type 0) (at_end : Goal state.End []) (keeps : (q : State) (ps : List P) → IsTrue (own q) → Keeps part Each Goal q ps) where
-    pub holds : {q : State} {row : List Piece} {ts : List LineToken} → Row q row ts → IsTrue (own q) → Goal q (map part row)
+  module _ (own : LineState → Bool) (closed : (q : LineState) → IsTrue (is_closed own q)) (labels : (own state.DatLabel ≡ false) × (own state.CallLocal ≡ false)) (Goal : LineState → List P → Type 0) (at_end : Goal state.End []) (keeps : (q : LineState) (ps : List P) → IsTrue (own q) → Keeps part Each Goal q ps) where
+    pub holds : {q : LineState} {row : List Piece} {ts : List LineToken} → Row q row ts → IsTrue (own q) → Goal q (map part row)
     holds over h = at_end
     holds (token {q = q} {r = r} {row = row} {t = t} f y) h =
         subst (λ x. Goal q (part x ∷ map part row)) (sym (own_piece own labels q t h)) (by_arrow Goal (map part row) (λ x. Goal q (x ∷ map part row)) f ((keeps q (map part row) h).arrows) (holds y (own_next own closed q r t f h)))

@@ -11,8 +11,8 @@ use Rattle.p8_columns.specs.Lines as lines
 use Rattle.p8_columns.specs.Lines.{Kind}
 use Rattle.p8_columns.specs.Columns.{open_for}
 use Rattle.p8_lexer.specs.Pieces.{Piece}
-use Rattle.p8_lines.specs.declared.state.State.{State}
-use Rattle.p8_lines.specs.declared.state.State.TheVariants as state
+use Rattle.p8_lines.specs.declared.state.LineState.{LineState}
+use Rattle.p8_lines.specs.declared.state.LineState.TheVariants as state
 use Rattle.p8_lines.specs.Tokens.{LineToken, word}
 use Rattle.p8_lines.specs.Lines.{read, Reads, line}
 use Rattle.p8_statements.specs.Statements.{kind_of_row}
@@ -59,18 +59,18 @@ depths (blocks.one_more {bs = bs} {b = b} a i) =
 
 -- lines that are read
 
-pub record ReadAs {V : Type 0} (value : List Piece → Option V) (q : State) (ts : List LineToken) (v : V) (rest : List LineToken) : Type 0 where
+pub record ReadAs {V : Type 0} (value : List Piece → Option V) (q : LineState) (ts : List LineToken) (v : V) (rest : List LineToken) : Type 0 where
   pub tokens : List LineToken
   pub split : ts ≡ tokens ++ rest
   pub valued : Valued within_limits value q tokens v
 
-read_as : {V : Type 0} {value : List Piece → Option V} {q : State} {ts rest : List LineToken} {v : V} → ReadsAs value q ts v rest → ReadAs value q ts v rest
+read_as : {V : Type 0} {value : List Piece → Option V} {q : LineState} {ts rest : List LineToken} {v : V} → ReadsAs value q ts v rest → ReadAs value q ts v rest
 read_as {value = value} {q = q} {ts = ts} {rest = rest} {v = v} x = go x.row x.is x.reads
   where
     go : (row : List Piece) → value row ≡ Some v → Reads q ts (read row rest) → ReadAs value q ts v rest
     go row e (line {us = us} split l) = record { tokens = us; split = split; valued = record { row = row; line = l; is = e } }
 
-as_read : {V : Type 0} {value : List Piece → Option V} {q : State} (us rest : List LineToken) {v : V} → Valued within_limits value q us v → ReadsAs value q (us ++ rest) v rest
+as_read : {V : Type 0} {value : List Piece → Option V} {q : LineState} (us rest : List LineToken) {v : V} → Valued within_limits value q us v → ReadsAs value q (us ++ rest) v rest
 as_read us rest v = record { row = v.row; reads = line refl v.line; is = v.is }
 
 record Opened (w : Word) (ts : List LineToken) (p : Part) (rest : List LineToken) : Type 0 where
@@ -103,7 +103,7 @@ record Extended (ts : List LineToken) (ps qs : List Part) (rest : List LineToken
   split : ts ≡ first ∷ (others ++ rest)
   adds : Adds within_limits (first ∷ others) ps qs
 
-extended_by : {ts rest : List LineToken} {ps qs : List Part} {V : Type 0} {value : List Piece → Option V} {v : V} (q : State) → IsTrue (begins_inside q) → ReadsAs value q ts v rest → ((us : List LineToken) → Valued within_limits value q us v → Adds within_limits us ps qs) → Extended ts ps qs rest
+extended_by : {ts rest : List LineToken} {ps qs : List Part} {V : Type 0} {value : List Piece → Option V} {v : V} (q : LineState) → IsTrue (begins_inside q) → ReadsAs value q ts v rest → ((us : List LineToken) → Valued within_limits value q us v → Adds within_limits us ps qs) → Extended ts ps qs rest
 extended_by {rest = rest} {ps = ps} {qs = qs} q b r f =
     let x = read_as r in
     let y = first_token begins_inside refl (leads_row x.valued.line) b in
@@ -125,7 +125,7 @@ extends us rest (more_assembly v) = blocks.more_assembly (as_read us rest v)
 
 -- how deep a line stands
 
-module _ (kinds : AllKinds) {h : Heights} (ls : List lines.Line) {b : Bool} (t : LineToken) (us : List LineToken) (q : State) (k : Kind) (e : Enters ls b t (from q)) (v : Valued h kind_of_row q (t ∷ us) k) where
+module _ (kinds : AllKinds) {h : Heights} (ls : List lines.Line) {b : Bool} (t : LineToken) (us : List LineToken) (q : LineState) (k : Kind) (e : Enters ls b t (from q)) (v : Valued h kind_of_row q (t ∷ us) k) where
   says_depth : line_depth k ≡ (if opens q (word t) then 1 else 0)
   says_depth =
       let i = entered_begins ls b t q e in

@@ -18,8 +18,8 @@ use Rattle.p8_lexer.specs.Pieces.{Piece}
 use Rattle.p8_lines.specs.declared.sign.Sign.{Sign}
 use Rattle.p8_lines.specs.declared.sign.Sign.TheVariants as sign
 use Rattle.p8_lines.specs.declared.arrow.Arrow.{Arrow}
-use Rattle.p8_lines.specs.declared.state.State.{State}
-use Rattle.p8_lines.specs.declared.state.State.TheVariants as state
+use Rattle.p8_lines.specs.declared.state.LineState.{LineState}
+use Rattle.p8_lines.specs.declared.state.LineState.TheVariants as state
 use Rattle.p8_lines.specs.Signs.{is_size, is_condition, takes_two, is_on_memory, takes_one, is_flag, is_write, Matches}
 use Rattle.p8_lines.specs.Diagram.{Phrase, choices, setting_at}
 use Rattle.p8_lines.specs.Tokens.{LineToken, word, lexeme, terms, string_length}
@@ -210,7 +210,7 @@ quiet_terms d c c' (u ∷ us) y (labels.another o l) = next (go (is_block_word (
 
 -- the arrows: only behind a colon in DAT a local label's name stands
 
-abbrev good_sign : State → Sign → Bool
+abbrev good_sign : LineState → Sign → Bool
 good_sign q sign.Label = is_dat (setting_at q) && is_labelled q
 good_sign q x = begins_no_block x
 
@@ -218,10 +218,10 @@ abbrev is_colon_sign : Sign → Bool
 is_colon_sign (sign.Word word_case.Colon) = true
 is_colon_sign x = false
 
-abbrev good_arrow : State → Arrow → Bool
+abbrev good_arrow : LineState → Arrow → Bool
 good_arrow q a = good_sign q a.sign && (implies (is_labelled a.to) (is_colon_sign a.sign) && implies (is_dat (setting_at a.to)) (is_dat (setting_at q)))
 
-arrows_good : (q : State) → IsTrue (all_good (good_arrow q) (choices q).arrows)
+arrows_good : (q : LineState) → IsTrue (all_good (good_arrow q) (choices q).arrows)
 arrows_good state.End = refl
 arrows_good q = refl
 
@@ -229,14 +229,14 @@ abbrev no_label : Sign → Bool
 no_label sign.Label = false
 no_label x = true
 
-abbrev good_behind : State → Arrow → Bool
+abbrev good_behind : LineState → Arrow → Bool
 good_behind q a = no_label a.sign && good_arrow q a
 
-abbrev good_phrase : State → Option Phrase → Bool
+abbrev good_phrase : LineState → Option Phrase → Bool
 good_phrase q None = true
 good_phrase q (Some h) = implies (is_dat h.setting) (is_dat (setting_at q)) && all_good_behind (good_behind q) h
 
-phrases_good : (q : State) → IsTrue (good_phrase q (choices q).phrase)
+phrases_good : (q : LineState) → IsTrue (good_phrase q (choices q).phrase)
 phrases_good state.End = refl
 phrases_good q = refl
 
@@ -245,7 +245,7 @@ halves true b h = (refl, h)
 halves false b h = absurd cc
 
 -- a word of an arrow
-arrow_word : (q : State) (x : Sign) (v : Word) (n : ℕ) (c : Bool) → Matches x v n → IsTrue (good_sign q x) → IsTrue (implies (is_labelled q) c) → IsTrue (if is_block_word v then is_dat (setting_at q) && c else true)
+arrow_word : (q : LineState) (x : Sign) (v : Word) (n : ℕ) (c : Bool) → Matches x v n → IsTrue (good_sign q x) → IsTrue (implies (is_labelled q) c) → IsTrue (if is_block_word v then is_dat (setting_at q) && c else true)
 arrow_word q sign.Label v n c m g l = go (is_block_word v) (is_labelled q) (halves (is_dat (setting_at q)) (is_labelled q) g) l
   where
     go : (b k : Bool) → IsTrue (is_dat (setting_at q)) × IsTrue k → IsTrue (implies k c) → IsTrue (if b then is_dat (setting_at q) && c else true)
@@ -259,7 +259,7 @@ colon_matches (sign.Word word_case.Colon) v n m h = ap is_colon m
 colon_matches x v n m h = absurd cc
 
 -- what follows an arrow
-behind_arrow : (q r : State) (t : LineToken) (a : Arrow) {ts : List LineToken} → IsOn a t → a.to ≡ r → IsTrue (good_arrow q a) → ((c : Bool) → IsTrue (implies (is_labelled r) c) → Quiet (is_dat (setting_at r)) c ts) → Quiet (is_dat (setting_at q)) (is_colon (word t)) ts
+behind_arrow : (q r : LineState) (t : LineToken) (a : Arrow) {ts : List LineToken} → IsOn a t → a.to ≡ r → IsTrue (good_arrow q a) → ((c : Bool) → IsTrue (implies (is_labelled r) c) → Quiet (is_dat (setting_at r)) c ts) → Quiet (is_dat (setting_at q)) (is_colon (word t)) ts
 behind_arrow q r t a {ts} m e g later =
     let x = halves (good_sign q a.sign) (implies (is_labelled a.to) (is_colon_sign a.sign) && implies (is_dat (setting_at a.to)) (is_dat (setting_at q))) g in
     let y = halves (implies (is_labelled a.to) (is_colon_sign a.sign)) (implies (is_dat (setting_at a.to)) (is_dat (setting_at q))) x.1 in
@@ -273,11 +273,11 @@ behind_arrow q r t a {ts} m e g later =
 any_flag : (d c : Bool) (w : Word) → is_block_word w ≡ false → IsTrue (if is_block_word w then d && c else true)
 any_flag d c w e = ap (λ b. if b then d && c else true) e
 
-unlabelled_word : (q : State) (x : Sign) (v : Word) (n : ℕ) → Matches x v n → IsTrue (no_label x) → IsTrue (good_sign q x) → is_block_word v ≡ false
+unlabelled_word : (q : LineState) (x : Sign) (v : Word) (n : ℕ) → Matches x v n → IsTrue (no_label x) → IsTrue (good_sign q x) → is_block_word v ≡ false
 unlabelled_word q sign.Label v n m u g = absurd cc
 unlabelled_word q x v n m u g = on_sign x v n m g
 
-pub in_row : {q : State} {row : List Piece} {us : List LineToken} → Row q row us → (c : Bool) → IsTrue (implies (is_labelled q) c) → Quiet (is_dat (setting_at q)) c us
+pub in_row : {q : LineState} {row : List Piece} {us : List LineToken} → Row q row us → (c : Bool) → IsTrue (implies (is_labelled q) c) → Quiet (is_dat (setting_at q)) c us
 in_row line_specs.over c l = over
 in_row (line_specs.token {q = q} {r = r} {t = t} f x) c l =
     let y = taken (good_arrow q) f (arrows_good q) in
@@ -294,12 +294,12 @@ in_row (line_specs.phrase {q = q} {r = r} {h = h} {e = e} {first = first} {t = t
 
 -- a line of DAT doesn't end with a colon
 
-abbrev pub in_dat_line : State → Bool
+abbrev pub in_dat_line : LineState → Bool
 in_dat_line state.End = true
 in_dat_line state.LineEnd = true
 in_dat_line q = is_dat (setting_at q)
 
-dat_closed : (q : State) → IsTrue (is_closed in_dat_line q)
+dat_closed : (q : LineState) → IsTrue (is_closed in_dat_line q)
 dat_closed state.End = refl
 dat_closed q = refl
 
@@ -310,10 +310,10 @@ is_end_sign x = false
 abbrev ends_well : Arrow → Bool
 ends_well a = implies (is_over a.to) (is_end_sign a.sign)
 
-abbrev ending : State → Bool
+abbrev ending : LineState → Bool
 ending q = implies (in_dat_line q) (all_good ends_well (choices q).arrows)
 
-endings : (q : State) → IsTrue (ending q)
+endings : (q : LineState) → IsTrue (ending q)
 endings state.End = refl
 endings q = refl
 
@@ -321,7 +321,7 @@ abbrev phrase_ends : Option Phrase → Bool
 phrase_ends None = true
 phrase_ends (Some h) = all_good_behind ends_well h
 
-ending_phrases : (q : State) → IsTrue (implies (in_dat_line q) (phrase_ends (choices q).phrase))
+ending_phrases : (q : LineState) → IsTrue (implies (in_dat_line q) (phrase_ends (choices q).phrase))
 ending_phrases state.End = refl
 ending_phrases q = refl
 
@@ -333,7 +333,7 @@ end_matches : (x : Sign) (v : Word) (n : ℕ) → Matches x v n → IsTrue (is_e
 end_matches (sign.Word word_case.LineEnd) v n m h = ap is_colon m
 end_matches x v n m h = absurd cc
 
-ends_so : (r : State) (t : LineToken) (a : Arrow) → IsOn a t → a.to ≡ r → IsTrue (ends_well a) → IsTrue (implies (is_over r) (not (is_colon (word t))))
+ends_so : (r : LineState) (t : LineToken) (a : Arrow) → IsOn a t → a.to ≡ r → IsTrue (ends_well a) → IsTrue (implies (is_over r) (not (is_colon (word t))))
 ends_so r t a m e g = subst (λ r. IsTrue (implies (is_over r) (not (is_colon (word t))))) e (go (is_over a.to) (is_end_sign a.sign) refl g)
   where
     go : (o k : Bool) → is_end_sign a.sign ≡ k → IsTrue (implies o k) → IsTrue (implies o (not (is_colon (word t))))
@@ -341,7 +341,7 @@ ends_so r t a m e g = subst (λ r. IsTrue (implies (is_over r) (not (is_colon (w
     go true true s h = ap not (end_matches a.sign (word t) (string_length t) m s)
     go true false s h = absurd cc
 
-pub row_end : {q : State} {row : List Piece} {us : List LineToken} → Row q row us → IsTrue (in_dat_line q) → (c : Bool) → IsTrue (implies (is_over q) (not c)) → colon_after c us ≡ false
+pub row_end : {q : LineState} {row : List Piece} {us : List LineToken} → Row q row us → IsTrue (in_dat_line q) → (c : Bool) → IsTrue (implies (is_over q) (not c)) → colon_after c us ≡ false
 row_end line_specs.over i true h = absurd cc
 row_end line_specs.over i false h = refl
 row_end (line_specs.token {q = q} {r = r} {t = t} f x) i c h =
@@ -360,10 +360,10 @@ ends_no_line x = false
 abbrev item_arrow : Arrow → Bool
 item_arrow a = if ends_no_line a.sign then (if is_over a.to then true else in_item a.to) else false
 
-abbrev item_arrows : State → Bool
+abbrev item_arrows : LineState → Bool
 item_arrows q = if in_item q then all_good item_arrow (choices q).arrows else true
 
-item_states : (q : State) → IsTrue (item_arrows q)
+item_states : (q : LineState) → IsTrue (item_arrows q)
 item_states state.End = refl
 item_states q = refl
 
@@ -371,7 +371,7 @@ abbrev item_behind : Bool → Option Phrase → Bool
 item_behind i None = true
 item_behind i (Some h) = if i then not (is_dat h.setting) && all_good_behind item_arrow h else true
 
-item_phrases : (q : State) → IsTrue (item_behind (in_item q) (choices q).phrase)
+item_phrases : (q : LineState) → IsTrue (item_behind (in_item q) (choices q).phrase)
 item_phrases state.End = refl
 item_phrases q = refl
 
@@ -388,7 +388,7 @@ no_line_end (sign.Word w) v n m h = ap is_line_end m ∙ refuted (is_line_end w)
 no_line_end x v n m h = absurd cc
 
 -- an arrow of an item leads to its end, or stays in it
-item_step : {r : State} {row : List Piece} {ts : List LineToken} (t : LineToken) (a : Arrow) → Matches a.sign (word t) (string_length t) → a.to ≡ r → IsTrue (item_arrow a) → Row r row ts → (IsTrue (in_item r) → NoneOf is_line_end ts) → NoneOf is_line_end (t ∷ ts)
+item_step : {r : LineState} {row : List Piece} {ts : List LineToken} (t : LineToken) (a : Arrow) → Matches a.sign (word t) (string_length t) → a.to ≡ r → IsTrue (item_arrow a) → Row r row ts → (IsTrue (in_item r) → NoneOf is_line_end ts) → NoneOf is_line_end (t ∷ ts)
 item_step {r} {row} {ts} t a m e h x later = go (ends_no_line a.sign) refl (is_over r) refl (subst (λ r. IsTrue (if ends_no_line a.sign then (if is_over r then true else in_item r) else false)) e h)
   where
     go : (b : Bool) → ends_no_line a.sign ≡ b → (c : Bool) → is_over r ≡ c → IsTrue (if b then (if c then true else in_item r) else false) → NoneOf is_line_end (t ∷ ts)
@@ -396,7 +396,7 @@ item_step {r} {row} {ts} t a m e h x later = go (ends_no_line a.sign) refl (is_o
     go true g false o h = another (no_line_end a.sign (word t) (string_length t) m g) (later h)
     go false g c o h = absurd cc
 
-pub in_item_row : {q : State} {row : List Piece} {us : List LineToken} → Row q row us → IsTrue (in_item q) → NoneOf is_line_end us
+pub in_item_row : {q : LineState} {row : List Piece} {us : List LineToken} → Row q row us → IsTrue (in_item q) → NoneOf is_line_end us
 in_item_row line_specs.over h = absurd cc
 in_item_row (line_specs.token {q = q} {t = t} f x) h =
     let y = taken item_arrow f (where_so (in_item q) (all_good item_arrow (choices q).arrows) (item_states q) h) in

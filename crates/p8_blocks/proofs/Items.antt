@@ -8,7 +8,7 @@ use Rattle.p8_lexer.specs.declared.word.Word.TheVariants as word_case
 use Rattle.p8_grammar.specs.Lexemes as lexemes
 use Rattle.p8_grammar.specs.Lexemes.{Lexeme}
 use Rattle.p8_lexer.specs.Pieces.{Piece}
-use Rattle.p8_lines.specs.declared.state.State.TheVariants as state
+use Rattle.p8_lines.specs.declared.state.LineState.TheVariants as state
 use Rattle.p8_lines.specs.Tokens.{LineToken, word, lexeme, piece_from, piece}
 use Rattle.p8_declarations.specs.Parts.{Part, line_end, comma, equals, hash, left_bracket, right_bracket, name, tree, part_of_word, part_of_piece, parts, is_line_end, ended, with_first}
 use Rattle.p8_declarations.specs.Constants.{setting, constant, constants, constants_named, constants_behind, constants_of_row}

@@ -10,8 +10,8 @@ use Rattle.p8_columns.specs.Lines.{Kind}
 use Rattle.p8_columns.specs.Columns.{AllFit}
 use Rattle.p8_columns.proofs.Meaning.{fit_append, fit_together}
 use Rattle.p8_lexer.specs.Pieces.{Piece}
-use Rattle.p8_lines.specs.declared.state.State.{State}
-use Rattle.p8_lines.specs.declared.state.State.TheVariants as state
+use Rattle.p8_lines.specs.declared.state.LineState.{LineState}
+use Rattle.p8_lines.specs.declared.state.LineState.TheVariants as state
 use Rattle.p8_lines.specs.Tokens.{LineToken, word}
 use Rattle.p8_lines.specs.Lines.{Row}
 use Rattle.p8_statements.specs.Statements.{kind_of_row}
@@ -26,7 +26,7 @@ use Rattle.p8_blocks.proofs.Walks.{Valued, row_of_line, OpensAs, Adds, first_con
 
 -- each line of a method has a kind that suits the state from which it is read
 abbrev pub AllKinds : Type 0
-AllKinds = (q : State) → IsTrue (begins_line q) → HaveKinds kind_of_row q
+AllKinds = (q : LineState) → IsTrue (begins_line q) → HaveKinds kind_of_row q
 
 pub all_kinds : HaveKinds kind_of_row state.Statement → HaveKinds kind_of_row state.ChainLine → HaveKinds kind_of_row state.LoopEndLine → HaveKinds kind_of_row state.CaseItem → AllKinds
 all_kinds s c l i state.Statement b = s
@@ -35,14 +35,14 @@ all_kinds s c l i state.LoopEndLine b = l
 all_kinds s c l i state.CaseItem b = i
 all_kinds s c l i q b = absurd cc
 
-pub suited : AllKinds → (q : State) (row : List Piece) (ts : List LineToken) (k : Kind) → IsTrue (begins_line q) → Row q row ts → kind_of_row row ≡ Some k → IsTrue (suits q k)
+pub suited : AllKinds → (q : LineState) (row : List Piece) (ts : List LineToken) (k : Kind) → IsTrue (begins_line q) → Row q row ts → kind_of_row row ≡ Some k → IsTrue (suits q k)
 suited kinds q row ts k b x e =
     let y = kinds q b row ts x in
     let z = sym y.1 ∙ e in
     let same : y.0 ≡ k = cc in
     subst (λ k. IsTrue (suits q k)) same y.2
 
-pub entered_begins : (ls : List lines.Line) (b : Bool) (t : LineToken) (q : State) → Enters ls b t (from q) → IsTrue (begins_line q)
+pub entered_begins : (ls : List lines.Line) (b : Bool) (t : LineToken) (q : LineState) → Enters ls b t (from q) → IsTrue (begins_line q)
 entered_begins ls b t q (goes_on h c) = refl
 entered_begins ls b t q (loop_end h c) = refl
 entered_begins ls b t q (statement h g c) = refl
@@ -56,7 +56,7 @@ pub not_begun_either : (b : Bool) (w : Word) → IsTrue (ends_loop b w) → b �
 not_begun_either true w h = absurd cc
 not_begun_either false w h = refl
 
-pub entered_text : (ls : List lines.Line) (b : Bool) (t : LineToken) (q : State) → Enters ls b t (from q) → begins_text q && b ≡ false
+pub entered_text : (ls : List lines.Line) (b : Bool) (t : LineToken) (q : LineState) → Enters ls b t (from q) → begins_text q && b ≡ false
 entered_text ls b t q (goes_on h c) = not_begun b (word t) h
 entered_text ls b t q (loop_end h c) = not_begun_either b (word t) h
 entered_text ls b t q (statement h g c) = refl
@@ -94,7 +94,7 @@ in_loop true true n = refl
 in_loop true false n = absurd (n (refl, refl))
 in_loop false i n = refl
 
-pub line_kept : AllKinds → (h : Heights) (m : MethodTree) (ls : List lines.Line) {b : Bool} (t : LineToken) (us : List LineToken) (q : State) (k : Kind) → Enters ls b t (from q) → ¬ HasNoLoop ls q t → Valued h kind_of_row q (t ∷ us) k → Kept (method m ls) → Kept (method m (ls ++ lines.line t.place k ∷ []))
+pub line_kept : AllKinds → (h : Heights) (m : MethodTree) (ls : List lines.Line) {b : Bool} (t : LineToken) (us : List LineToken) (q : LineState) (k : Kind) → Enters ls b t (from q) → ¬ HasNoLoop ls q t → Valued h kind_of_row q (t ∷ us) k → Kept (method m ls) → Kept (method m (ls ++ lines.line t.place k ∷ []))
 line_kept kinds h m ls t us q k e l v y =
     let begins = entered_begins ls _ t q e in
     let x = row_of_line h q v.row (t ∷ us) v.line in

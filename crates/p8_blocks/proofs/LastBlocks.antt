@@ -2,7 +2,7 @@
 use Rattle.std.proofs.Common.{◌≡◌, List, [], ◌∷◌, ◌++◌, Some, refl, sym, ◌∙◌}
 use Rattle.std.specs.Prelude.{IsTrue}
 use Rattle.p8_tree.specs.Sources.{BlockTree, Source}
-use Rattle.p8_lines.specs.declared.state.State.{State}
+use Rattle.p8_lines.specs.declared.state.LineState.{LineState}
 use Rattle.p8_lines.specs.Tokens.{LineToken}
 use Rattle.p8_blocks.specs.Reading.{Part, line_state, declares, AreBlocks, no_blocks, one_more, con_block, var_block, obj_block, dat_block, method_block}
 use Rattle.p8_blocks.specs.Files.{any_height, IsFile}
@@ -28,7 +28,7 @@ last_of (one_more {bs = bs} {b = b} a obj_block) d = last_more bs b
 last_of (one_more {bs = bs} {b = b} a dat_block) d = last_more bs b
 last_of (one_more a (method_block x)) d = absurd cc
 
-pub declares_of : {ps : List Part} {s : Source} {q : State} → AreBlocks ps s → last_state s ≡ Some q → IsTrue (declares ps) × (line_state ps ≡ q)
+pub declares_of : {ps : List Part} {s : Source} {q : LineState} → AreBlocks ps s → last_state s ≡ Some q → IsTrue (declares ps) × (line_state ps ≡ q)
 declares_of no_blocks e = (refl, cc)
 declares_of (one_more {bs = bs} {b = b} a con_block) e = let z = sym (last_more bs b) ∙ e in (refl, cc)
 declares_of (one_more {bs = bs} {b = b} a var_block) e = let z = sym (last_more bs b) ∙ e in (refl, cc)

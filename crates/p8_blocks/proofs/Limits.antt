@@ -11,8 +11,8 @@ use Rattle.p8_grammar.specs.Lexemes.{in_method}
 use Rattle.p8_columns.specs.Lines as lines
 use Rattle.p8_columns.specs.Lines.{Kind}
 use Rattle.p8_lexer.specs.Pieces.{Piece}
-use Rattle.p8_lines.specs.declared.state.State.{State}
-use Rattle.p8_lines.specs.declared.state.State.TheVariants as state
+use Rattle.p8_lines.specs.declared.state.LineState.{LineState}
+use Rattle.p8_lines.specs.declared.state.LineState.TheVariants as state
 use Rattle.p8_lines.specs.Diagram.{setting_at}
 use Rattle.p8_lines.specs.Tokens.{LineToken, word}
 use Rattle.p8_lines.specs.Lines as line_specs
@@ -43,13 +43,13 @@ module _ (all : AllValues) where
   head_goes word_case.Con = refl
   head_goes w = refl
 
-  abbrev goes_on_from : State → Bool
+  abbrev goes_on_from : LineState → Bool
   goes_on_from q = if is_over q then false else true
 
-  not_over : (q : State) → is_over q ≡ false → IsTrue (goes_on_from q)
+  not_over : (q : LineState) → is_over q ≡ false → IsTrue (goes_on_from q)
   not_over q e = ap (λ b. if b then false else true) e
 
-  lines_from : {x : Progress} {ts : List LineToken} (w : Walk any_height x ts) (t : LineToken) (q : State) → ((y : Progress) (xs ys zs : List LineToken) → Line any_height x xs y → xs ++ ys ≡ t ∷ zs → (row : List Piece) × Row q row xs) → ((row : List Piece) (us : List LineToken) → Row q row (t ∷ us) → (y : Progress) × Line any_height x (t ∷ us) y) → LinesFrom ts t q
+  lines_from : {x : Progress} {ts : List LineToken} (w : Walk any_height x ts) (t : LineToken) (q : LineState) → ((y : Progress) (xs ys zs : List LineToken) → Line any_height x xs y → xs ++ ys ≡ t ∷ zs → (row : List Piece) × Row q row xs) → ((row : List Piece) (us : List LineToken) → Row q row (t ∷ us) → (y : Progress) × Line any_height x (t ∷ us) y) → LinesFrom ts t q
   lines_from {x} {ts} w t q rows completes = record {
     may = λ row us r. walk_file all (more w (completes row us r).1);
     must = λ rest s f. (let v = file_walk all.kinds f in must rest (next_line t rest w v.walk));
@@ -90,12 +90,12 @@ module _ (all : AllValues) where
   declared_lines : {ps : List Part} {b : Bool} {ts : List LineToken} → Walk any_height (ps, b) ts → (t : LineToken) → word t ≢ word_case.LineEnd → ¬ IsHead t → IsTrue (declares ps) → LinesFrom ts t (line_state ps)
   declared_lines {ps} {b} w t n i d = lines_from w t (line_state ps) (declaration_row all t n i d) (λ row us r. (let x = row_adds all ps d row (t ∷ us) r in ((x.0, false), declaration t n i x.1)))
 
-  pub completes : {m : MethodTree} {ls : List lines.Line} {ps : List Part} {b : Bool} (t : LineToken) (q : State) → word t ≢ word_case.LineEnd → ¬ IsHead t → Enters ls b t (from q) → ¬ HasNoLoop ls q t → (row : List Piece) (us : List LineToken) → Row q row (t ∷ us) → (y : Progress) × Line any_height (method m ls ∷ ps, b) (t ∷ us) y
+  pub completes : {m : MethodTree} {ls : List lines.Line} {ps : List Part} {b : Bool} (t : LineToken) (q : LineState) → word t ≢ word_case.LineEnd → ¬ IsHead t → Enters ls b t (from q) → ¬ HasNoLoop ls q t → (row : List Piece) (us : List LineToken) → Row q row (t ∷ us) → (y : Progress) × Line any_height (method m ls ∷ ps, b) (t ∷ us) y
   completes {m} {ls} {ps} {b} t q n i e l row us r =
       let k = all.kinds q (entered_begins ls b t q e) row (t ∷ us) r in
       ((method m (ls ++ lines.line t.place k.0 ∷ []) ∷ ps, is_item k.0), method_line t q n i e l (record { row = row; line = r; is = k.1 }))
 
-  method_lines : {m : MethodTree} {ls : List lines.Line} {ps : List Part} {b : Bool} {ts : List LineToken} → Walk any_height (method m ls ∷ ps, b) ts → (t : LineToken) (q : State) → word t ≢ word_case.LineEnd → ¬ IsHead t → Enters ls b t (from q) → ¬ HasNoLoop ls q t → LinesFrom ts t q
+  method_lines : {m : MethodTree} {ls : List lines.Line} {ps : List Part} {b : Bool} {ts : List LineToken} → Walk any_height (method m ls ∷ ps, b) ts → (t : LineToken) (q : LineState) → word t ≢ word_case.LineEnd → ¬ IsHead t → Enters ls b t (from q) → ¬ HasNoLoop ls q t → LinesFrom ts t q
   method_lines w t q n i e l = lines_from w t q (method_row all t q n i e) (completes t q n i e l)
 
   -- where a line of the text begins
@@ -104,7 +104,7 @@ module _ (all : AllValues) where
   ends_with ts {us} l e = subst EndsLine (append_assoc ts l.before (l.token ∷ []) ∙ ap (λ us. ts ++ us) (sym l.split)) (line_end (ts ++ l.before) l.token (l.is ∙ e))
 
   -- the same for a row that isn't an item's
-  ends_row : {q : State} {row : List Piece} (ts vs us : List LineToken) → Row q row us → is_over q ≡ false → in_item q ≡ false → EndsLine (ts ++ (vs ++ us))
+  ends_row : {q : LineState} {row : List Piece} (ts vs us : List LineToken) → Row q row us → is_over q ≡ false → in_item q ≡ false → EndsLine (ts ++ (vs ++ us))
   ends_row ts vs us r o i = ends_with ts (behind_all vs (row_ends r o)) (ap last_word i)
 
   head_outside : (w : Word) → in_item (head_state w) ≡ false
@@ -127,7 +127,7 @@ module _ (all : AllValues) where
   line_goes (reading.assembly xs ∷ ps) = refl
   line_goes (method m ls ∷ ps) = refl
 
-  entered_goes : (q : State) → IsTrue (begins_line q) → is_over q ≡ false
+  entered_goes : (q : LineState) → IsTrue (begins_line q) → is_over q ≡ false
   entered_goes state.Statement h = refl
   entered_goes state.ChainLine h = refl
   entered_goes state.LoopEndLine h = refl
@@ -135,7 +135,7 @@ module _ (all : AllValues) where
   entered_goes q h = absurd cc
 
   -- a line is an item exactly where it is read as one
-  item_state : (q : State) (k : Kind) → IsTrue (begins_line q) → IsTrue (suits q k) → IsTrue (is_item k) → q ≡ state.CaseItem
+  item_state : (q : LineState) (k : Kind) → IsTrue (begins_line q) → IsTrue (suits q k) → IsTrue (is_item k) → q ≡ state.CaseItem
   item_state state.CaseItem k b s i = refl
   item_state state.Statement (lines.Item xs) b s i = absurd cc
   item_state state.Statement lines.Other b s i = absurd cc
@@ -148,7 +148,7 @@ module _ (all : AllValues) where
   item_state state.LoopEndLine k b s i = absurd cc
   item_state q k b s i = absurd cc
 
-  no_item_state : (q : State) (k : Kind) → IsTrue (begins_line q) → IsTrue (suits q k) → is_item k ≡ false → in_item q ≡ false
+  no_item_state : (q : LineState) (k : Kind) → IsTrue (begins_line q) → IsTrue (suits q k) → is_item k ≡ false → in_item q ≡ false
   no_item_state state.Statement k b s i = refl
   no_item_state state.ChainLine k b s i = refl
   no_item_state state.LoopEndLine k b s i = refl
@@ -223,12 +223,12 @@ module _ (all : AllValues) where
   barred_number (no_loop h c) e = absurd cc
   barred_number {t = t} (after_other h g c) e = not_nested in_method (word t) e
 
-  nothing_high : {q : State} {n : ℕ} {p : Place} → Reads q [] (refused n p) → n ≡ refusal_number TooNested → ⊥
+  nothing_high : {q : LineState} {n : ℕ} {p : Place} → Reads q [] (refused n p) → n ≡ refusal_number TooNested → ⊥
   nothing_high (too_high {us = []} e x p h) n = absurd cc
   nothing_high (too_high {us = u ∷ us} e x p h) n = absurd cc
   nothing_high {q} (stopped t vs e b l s h) n = not_nested (setting_at q) (word t) n
 
-  module _ {m : MethodTree} {ls : List lines.Line} {ps : List Part} {b : Bool} {ts : List LineToken} (w : Walk any_height (method m ls ∷ ps, b) ts) (t : LineToken) (q : State) (n : word t ≢ word_case.LineEnd) (i : ¬ IsHead t) (e : Enters ls b t (from q)) where
+  module _ {m : MethodTree} {ls : List lines.Line} {ps : List Part} {b : Bool} {ts : List LineToken} (w : Walk any_height (method m ls ∷ ps, b) ts) (t : LineToken) (q : LineState) (n : word t ≢ word_case.LineEnd) (i : ¬ IsHead t) (e : Enters ls b t (from q)) where
     -- a line that goes on with these tokens
     pub goes_on_with : ¬ HasNoLoop ls q t → (us : List LineToken) → line_specs.Begins q (t ∷ us) → Begins (ts ++ t ∷ us)
     goes_on_with l us (rest, row, r) = walk_begins all (ts ++ t ∷ us) rest (subst (λ z. Walk any_height (completes {m = m} {ps = ps} t q n i e l row (us ++ rest) r).0 z) (sym (append_assoc ts (t ∷ us) rest)) (more w (completes t q n i e l row (us ++ rest) r).1))
@@ -250,7 +250,7 @@ module _ (all : AllValues) where
             let s : Shallow ls (lines.line u.place k) = (after_rest Shallow [] ls (lines.line u.place k ∷ []) a.0).0 in
             not_shallow all.kinds ls u us r k e' v s (subst (λ u. IsTooDeep ls r u) (sym firsts) (subst (λ q. IsTooDeep ls q t) states d))
 
-  pub too_deep_begins : {ls : List lines.Line} {m : MethodTree} {ps : List Part} {b : Bool} {ts us : List LineToken} {q : State} {o : Outcome} (t : LineToken) → Walk any_height (method m ls ∷ ps, b) ts → word t ≢ word_case.LineEnd → ¬ IsHead t → Enters ls b t (from q) → IsTooDeep ls q t → Reads q (t ∷ us) o → ¬ IsRefusedAt t.place o → Begins (ts ++ t ∷ [])
+  pub too_deep_begins : {ls : List lines.Line} {m : MethodTree} {ps : List Part} {b : Bool} {ts us : List LineToken} {q : LineState} {o : Outcome} (t : LineToken) → Walk any_height (method m ls ∷ ps, b) ts → word t ≢ word_case.LineEnd → ¬ IsHead t → Enters ls b t (from q) → IsTooDeep ls q t → Reads q (t ∷ us) o → ¬ IsRefusedAt t.place o → Begins (ts ++ t ∷ [])
   too_deep_begins {ls = ls} {b = b} {q = q} t w n i e d r o = goes_on_with w t q n i e (λ l. loop_or_deep ls q q t refl l d) [] (begins_line_so (entered_goes q (entered_begins ls b t q e)) r o)
 
   passes_at : {x : Position} {ts us : List LineToken} {n : ℕ} {p : Place} → Walk any_height (x.parts, is_begun x.begun) ts → LinesBegin ts x.begun → Fails x us n p → n ≡ refusal_number TooNested → PassesAt (ts ++ us) p

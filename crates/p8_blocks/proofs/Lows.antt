@@ -22,8 +22,8 @@ use Rattle.p8_grammar.proofs.Live.{IsEnding, AreEndings, dead, not_too_high}
 use Rattle.p8_grammar.proofs.Readings.{shows}
 use Rattle.p8_expr.specs.Words.{lexeme_of_word}
 use Rattle.p8_lexer.specs.Pieces.{Piece, tree}
-use Rattle.p8_lines.specs.declared.state.State.{State}
-use Rattle.p8_lines.specs.declared.state.State.TheVariants as state
+use Rattle.p8_lines.specs.declared.state.LineState.{LineState}
+use Rattle.p8_lines.specs.declared.state.LineState.TheVariants as state
 use Rattle.p8_lines.specs.Diagram.{Phrase, choices, setting_at}
 use Rattle.p8_lines.specs.Tokens.{LineToken, word, lexeme, term, terms, piece}
 use Rattle.p8_lines.specs.Lines as lines
@@ -111,13 +111,13 @@ value_reads : (s : Setting) → (e : Tree) × IsExpression s e (terms (value_tok
 value_reads s = (node somewhere (Built 0x3F no_trees), subst (λ x. IsExpression s (node somewhere (Built 0x3F no_trees)) (token somewhere x ∷ [])) (sym value_lexeme) (operand a_value (a_reserved_word (67 ∷ 79 ∷ 71 ∷ 73 ∷ 68 ∷ []) refl nothing)), refl)
 
 -- a line within the limits from a state
-pub record LowLine (q : State) (ts : List LineToken) : Type 0 where
+pub record LowLine (q : LineState) (ts : List LineToken) : Type 0 where
   pub rest : List LineToken
   pub row : List Piece
   pub leads : Leads q (ts ++ rest) row state.End
 
 -- an expression and what follows it, and COGID in its place where it isn't a name
-zeroed : {q r : State} {h : Phrase} {e : Tree} {t : LineToken} (first : LineToken) (others : List LineToken) → (choices q).phrase ≡ Some h → IsExpression h.setting e (terms (first ∷ others)) → Follows (behind h (first ∷ others)) t r → LowLine r [] → LowLine q []
+zeroed : {q r : LineState} {h : Phrase} {e : Tree} {t : LineToken} (first : LineToken) (others : List LineToken) → (choices q).phrase ≡ Some h → IsExpression h.setting e (terms (first ∷ others)) → Follows (behind h (first ∷ others)) t r → LowLine r [] → LowLine q []
 zeroed {q} {r} {h} {e} {t} first others p x f z = go others x f
   where
     value : Follows h.behind_other t r → LowLine q []
@@ -132,16 +132,16 @@ zeroed {q} {r} {h} {e} {t} first others p x f z = go others x f
     go (u ∷ us) x f = value f
 
 -- with COGID in the place of each expression but names
-lowered : {q : State} {row : List Piece} {ts : List LineToken} → Row q row ts → LowLine q []
+lowered : {q : LineState} {row : List Piece} {ts : List LineToken} → Row q row ts → LowLine q []
 lowered over = record { rest = []; row = []; leads = nowhere }
 lowered (lines.token {t = t} f x) = let y = lowered x in record { rest = t ∷ y.rest; row = _; leads = by_token f y.leads }
 lowered (lines.phrase {first = first} others p x f y) = zeroed first others p x f (lowered y)
 
-pub from_state : (q : State) → LowLine q []
+pub from_state : (q : LineState) → LowLine q []
 from_state q = lowered (completed q).2
 
 -- a low expression at a state, and what follows it
-pub low_phrase : (q : State) (h : Phrase) (ts : List LineToken) → (choices q).phrase ≡ Some h → Low h.setting greatest_height ts → LowLine q ts
+pub low_phrase : (q : LineState) (h : Phrase) (ts : List LineToken) → (choices q).phrase ≡ Some h → Low h.setting greatest_height ts → LowLine q ts
 low_phrase q h ts p y = go (ts ++ y.rest) refl
   where
     go : (l : List LineToken) → ts ++ y.rest ≡ l → LowLine q ts
@@ -156,10 +156,10 @@ low_phrase q h ts p y = go (ts ++ y.rest) refl
         }
 
 -- what is read first
-pub led : {q r : State} {us : List LineToken} {row : List Piece} (vs : List LineToken) → Leads q us row r → LowLine r vs → LowLine q (us ++ vs)
+pub led : {q r : LineState} {us : List LineToken} {row : List Piece} (vs : List LineToken) → Leads q us row r → LowLine r vs → LowLine q (us ++ vs)
 led {q = q} {us = us} {row = row} vs l y = record { rest = y.rest; row = row ++ y.row; leads = subst (λ l. Leads q l (row ++ y.row) state.End) (sym (append_assoc us vs y.rest)) (leads_on l y.leads) }
 
-further_high : {q r : State} {us : List LineToken} {row : List Piece} (vs : List LineToken) → Leads q us row r → HasTooHigh r vs → HasTooHigh q (us ++ vs)
+further_high : {q r : LineState} {us : List LineToken} {row : List Piece} (vs : List LineToken) → Leads q us row r → HasTooHigh r vs → HasTooHigh q (us ++ vs)
 further_high {us = us} vs l h = record {
   before = us ++ h.before;
   after = h.after;
@@ -173,7 +173,7 @@ further_high {us = us} vs l h = record {
 }
 
 -- tokens of an expression and of what follows it
-phrase_lows : {q r : State} {h : Phrase} {tree : Tree} {t : LineToken} (first u : LineToken) (us rest others ts : List LineToken) → (choices q).phrase ≡ Some h → IsExpression h.setting tree (terms (first ∷ others)) → Follows (behind h (first ∷ others)) t r → (first ∷ others) ++ t ∷ ts ≡ (u ∷ us) ++ rest → ¬ HasTooHigh q (u ∷ us) → ((vs : List LineToken) → ts ≡ vs ++ rest → ¬ HasTooHigh r vs → LowLine r vs) → LowLine q (u ∷ us)
+phrase_lows : {q r : LineState} {h : Phrase} {tree : Tree} {t : LineToken} (first u : LineToken) (us rest others ts : List LineToken) → (choices q).phrase ≡ Some h → IsExpression h.setting tree (terms (first ∷ others)) → Follows (behind h (first ∷ others)) t r → (first ∷ others) ++ t ∷ ts ≡ (u ∷ us) ++ rest → ¬ HasTooHigh q (u ∷ us) → ((vs : List LineToken) → ts ≡ vs ++ rest → ¬ HasTooHigh r vs → LowLine r vs) → LowLine q (u ∷ us)
 phrase_lows {q} {r} {h} {tree} {t} first u us rest others ts p x f e n later = go (compare (u ∷ us) rest (first ∷ others) (t ∷ ts) (sym e))
   where
     not_high : (front after : List LineToken) → u ∷ us ≡ front ++ after → IsFront h.setting (terms front) → ¬ heights.IsTooHigh h.setting greatest_height (terms front)
@@ -205,7 +205,7 @@ phrase_lows {q} {r} {h} {tree} {t} first u us rest others ts p x f e n later = g
         behind_it v vs a i j
 
 -- what begins a line and isn't too high
-lows : {q : State} {row : List Piece} {ts : List LineToken} (us rest : List LineToken) → Row q row ts → ts ≡ us ++ rest → ¬ HasTooHigh q us → LowLine q us
+lows : {q : LineState} {row : List Piece} {ts : List LineToken} (us rest : List LineToken) → Row q row ts → ts ≡ us ++ rest → ¬ HasTooHigh q us → LowLine q us
 lows {q = q} [] rest r e n = from_state q
 lows (u ∷ us) rest over e n = absurd cc
 lows (u ∷ us) rest (lines.token {q = q} {r = r} {t = t} {ts = ts} f x) e n =
@@ -218,7 +218,7 @@ lows (u ∷ us) rest (lines.phrase {r = r} {first = first} others {ts = ts} p x 
     let later : (vs : List LineToken) → ts ≡ vs ++ rest → ¬ HasTooHigh r vs → LowLine r vs = λ vs j k. lows vs rest y j k in
     phrase_lows first u us rest others ts p x f e n later
 
-pub low_line : {q : State} (us : List LineToken) → Begins q us → ¬ HasTooHigh q us → LowLine q us
+pub low_line : {q : LineState} (us : List LineToken) → Begins q us → ¬ HasTooHigh q us → LowLine q us
 low_line us (rest, row, r) n = lows us rest r refl n
 
 -- the first token with which an expression is too high
@@ -264,7 +264,7 @@ nothing_low s n lt = go (low_or_high s n [] (nothing_begins s))
     go (inr low) = low
 
 -- the first token with which a line is too high: up to it the line can be ended within the limits, with it only past them
-pub record HighAt (q : State) (ts : List LineToken) (p : Place) : Type 0 where
+pub record HighAt (q : LineState) (ts : List LineToken) (p : Place) : Type 0 where
   pub front : List LineToken
   pub token : LineToken
   pub rest : List LineToken
@@ -279,7 +279,7 @@ pub same_first : {X : Type 0} (first : X) {others : List X} (xs : List X) (x : X
 same_first first [] x ys zs e = (zs, (let h : x ≡ first = cc in ap (λ y. y ∷ zs) h))
 same_first first (y ∷ xs) x ys zs e = (xs ++ x ∷ zs, (let h : y ≡ first = cc in ap (λ y. y ∷ (xs ++ x ∷ zs)) h))
 
-pub high_at : {q : State} {ts : List LineToken} {n : ℕ} {p : Place} → Reads q ts (refused n p) → n ≡ refusal_number refusal.TooNested → HighAt q ts p
+pub high_at : {q : LineState} {ts : List LineToken} {n : ℕ} {p : Place} → Reads q ts (refused n p) → n ≡ refusal_number refusal.TooNested → HighAt q ts p
 high_at {q} {ts} (lines.too_high {row = row} {us = us} {vs = vs} {t = t} {r = r} {h = h} f leads expects high) n = record {
   front = us ++ fh.front;
   token = fh.token;

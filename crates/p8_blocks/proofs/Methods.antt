@@ -3,8 +3,8 @@ use Rattle.std.proofs.Common.{◌≡◌, ℕ, List, [], ◌∷◌, Some, None, B
 use Rattle.std.specs.Prelude.{IsTrue}
 use Rattle.p8_tree.specs.declared.places.Place.{Place}
 use Rattle.p8_tree.specs.Sources.{MethodTree}
-use Rattle.p8_lines.specs.declared.state.State.{State}
-use Rattle.p8_lines.specs.declared.state.State.TheVariants as state
+use Rattle.p8_lines.specs.declared.state.LineState.{LineState}
+use Rattle.p8_lines.specs.declared.state.LineState.TheVariants as state
 use Rattle.p8_declarations.specs.Parts.{Part, line_end, left_bracket, part_of_piece}
 use Rattle.p8_declarations.specs.Variables.{variable, variables, variables_named, variables_behind}
 use Rattle.p8_declarations.specs.Methods.{bare, with_parameter, with_result, with_locals, behind_result, result_named, behind_parameters, parameters, behind_parameter, behind_name, head, method_of_row}
@@ -14,7 +14,7 @@ use Rattle.p8_blocks.proofs.Following.{Has, found, mapped, Keeps, both, holds}
 use Rattle.p8_blocks.proofs.DeclarationWords.{Each, each, with}
 use Rattle.p8_blocks.proofs.Variables.{over}
 
-abbrev own : State → Bool
+abbrev own : LineState → Bool
 own state.End = true
 own state.MethodName = true
 own state.MethodNamed = true
@@ -29,12 +29,12 @@ own state.LocalCount = true
 own state.MoreLocals = true
 own q = false
 
-closed : (q : State) → IsTrue (is_closed own q)
+closed : (q : LineState) → IsTrue (is_closed own q)
 closed state.End = refl
 closed q = refl
 
 -- what is left of a head at each state
-abbrev Goal : Bool → State → List Part → Type 0
+abbrev Goal : Bool → LineState → List Part → Type 0
 Goal public state.End ps = ps ≡ []
 Goal public state.MethodName ps = Has (head public ps)
 Goal public state.MethodNamed ps = (m : MethodTree) → Has (behind_name m ps)
@@ -52,7 +52,7 @@ Goal public q ps = Unit {0}
 ends : (m : MethodTree) (ps : List Part) → ps ≡ [] → Has (behind_result m (line_end ∷ ps))
 ends m ps h = subst (λ ps. Has (behind_result m (line_end ∷ ps))) (sym h) (found m)
 
-keeps : (public : Bool) (q : State) (ps : List Part) → IsTrue (own q) → Keeps part_of_piece Each (Goal public) q ps
+keeps : (public : Bool) (q : LineState) (ps : List Part) → IsTrue (own q) → Keeps part_of_piece Each (Goal public) q ps
 keeps public state.End ps h = record { arrows = tt; phrase = tt }
 keeps public state.MethodName ps h = record { arrows = ((λ y n p. y (bare public n p)), tt); phrase = tt }
 keeps public state.MethodNamed ps h = record {

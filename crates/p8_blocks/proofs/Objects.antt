@@ -3,8 +3,8 @@ use Rattle.std.proofs.Common.{◌≡◌, ℕ, List, [], ◌∷◌, Option, Some,
 use Rattle.std.specs.Prelude.{IsTrue, if◌then◌else◌}
 use Rattle.p8_tree.specs.declared.places.Place.{Place}
 use Rattle.p8_tree.specs.Expressions.{Tree}
-use Rattle.p8_lines.specs.declared.state.State.{State}
-use Rattle.p8_lines.specs.declared.state.State.TheVariants as state
+use Rattle.p8_lines.specs.declared.state.LineState.{LineState}
+use Rattle.p8_lines.specs.declared.state.LineState.TheVariants as state
 use Rattle.p8_declarations.specs.Parts.{Part, line_end, left_bracket, right_bracket, text, tree, part_of_piece, is_line_end}
 use Rattle.p8_declarations.specs.Objects.{child, in_file, object_named, object, alone, objects_of_row}
 use Rattle.p8_blocks.specs.Values.{HaveValues}
@@ -12,7 +12,7 @@ use Rattle.p8_blocks.proofs.Closed.{is_closed}
 use Rattle.p8_blocks.proofs.Following.{Has, found, Keeps, both, holds}
 use Rattle.p8_blocks.proofs.DeclarationWords.{Each, each}
 
-abbrev own : State → Bool
+abbrev own : LineState → Bool
 own state.End = true
 own state.LineEnd = true
 own state.ObjHead = true
@@ -23,12 +23,12 @@ own state.ObjColon = true
 own state.ObjFile = true
 own q = false
 
-closed : (q : State) → IsTrue (is_closed own q)
+closed : (q : LineState) → IsTrue (is_closed own q)
 closed state.End = refl
 closed q = refl
 
 -- what is left of a line at each state
-abbrev Goal : State → List Part → Type 0
+abbrev Goal : LineState → List Part → Type 0
 Goal state.End ps = ps ≡ []
 Goal state.LineEnd ps = ps ≡ line_end ∷ []
 Goal state.ObjHead ps = Has (if is_line_end ps then Some [] else alone (object ps))
@@ -45,7 +45,7 @@ empty ps h = subst (λ ps. Has (if is_line_end (line_end ∷ ps) then Some [] el
 in_text : (n : List ℕ) (p : Place) (c : Option Tree) (t : List ℕ) (q : Place) (ps : List Part) → ps ≡ line_end ∷ [] → Has (alone (in_file n p c (text t q ∷ ps)))
 in_text n p c t q ps h = subst (λ ps. Has (alone (in_file n p c (text t q ∷ ps)))) (sym h) (found (child n p c t q ∷ []))
 
-keeps : (q : State) (ps : List Part) → IsTrue (own q) → Keeps part_of_piece Each Goal q ps
+keeps : (q : LineState) (ps : List Part) → IsTrue (own q) → Keeps part_of_piece Each Goal q ps
 keeps state.End ps h = record { arrows = tt; phrase = tt }
 keeps state.LineEnd ps h = record { arrows = ((λ y. ap (λ ps. line_end ∷ ps) y), tt); phrase = tt }
 keeps state.ObjHead ps h = record { arrows = ((λ y. empty ps y), ((λ y n p. y n p), tt)); phrase = tt }

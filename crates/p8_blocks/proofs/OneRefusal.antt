@@ -7,7 +7,7 @@ use Rattle.p8_lexer.specs.declared.word.Word.TheVariants as word_case
 use Rattle.p8_tree.specs.declared.refusal.Refusal.TheVariants.{TooNested}
 use Rattle.p8_tree.specs.Refusals.{refusal_number}
 use Rattle.p8_columns.specs.Lines as lines
-use Rattle.p8_lines.specs.declared.state.State.{State}
+use Rattle.p8_lines.specs.declared.state.LineState.{LineState}
 use Rattle.p8_lines.specs.Tokens.{LineToken, word}
 use Rattle.p8_lines.specs.Lines.{refused, Reads}
 use Rattle.p8_lines.proofs.Splits.{Compared, same, beyond, short, compare}
@@ -80,7 +80,7 @@ module _ (all : AllValues) where
 
   -- an expression that is too high is read so
 
-  module _ (before : List LineToken) (t : LineToken) (after : List LineToken) {p : Place} (within : BeginsWithinLimits before) (begins : Begins (before ++ t ∷ [])) (ts : List LineToken) (u : LineToken) (us vs : List LineToken) (q : State) (split : before ≡ ts ++ us) (line : us ++ t ∷ after ≡ u ∷ vs) (fits : ¬ OpensTooMany before t) (r : Reads q (u ∷ vs) (refused (refusal_number TooNested) p)) where
+  module _ (before : List LineToken) (t : LineToken) (after : List LineToken) {p : Place} (within : BeginsWithinLimits before) (begins : Begins (before ++ t ∷ [])) (ts : List LineToken) (u : LineToken) (us vs : List LineToken) (q : LineState) (split : before ≡ ts ++ us) (line : us ++ t ∷ after ≡ u ∷ vs) (fits : ¬ OpensTooMany before t) (r : Reads q (u ∷ vs) (refused (refusal_number TooNested) p)) where
     whole : before ++ t ∷ after ≡ ts ++ u ∷ vs
     whole = ap (λ l. l ++ t ∷ after) split ∙ append_assoc ts us (t ∷ after) ∙ ap (λ l. ts ++ l) line
 
@@ -128,7 +128,7 @@ module _ (all : AllValues) where
     height_read : BeginsLine ts u q → Parses (before ++ t ∷ after) (fault (refusal_number TooNested) p)
     height_read b = go ts u q b refl refl refl
       where
-        go : (os : List LineToken) (v : LineToken) (k : State) → BeginsLine os v k → os ≡ ts → v ≡ u → k ≡ q → Parses (before ++ t ∷ after) (fault (refusal_number TooNested) p)
+        go : (os : List LineToken) (v : LineToken) (k : LineState) → BeginsLine os v k → os ≡ ts → v ≡ u → k ≡ q → Parses (before ++ t ∷ after) (fault (refusal_number TooNested) p)
         go os v k (behind_word x f i) e j m = word_read x f i (sym e) (sym m)
         go os v k (declaration {s = s} f l n i) e j m = declaration_read (subst (IsFile any_height s) e f) (l ∙ ap Some m) (λ z. n (ap word j ∙ z)) (λ z. i (subst IsHead (sym j) z))
         go os v k (method_line {ls = ls} {b = b} o n i x) e j m = method_read (subst (λ l. EndsInMethod l ls b) e o) (λ z. n (ap word j ∙ z)) (λ z. i (subst IsHead (sym j) z)) (subst (λ u. Enters ls b u (from q)) j (subst (λ k. Enters ls b v (from k)) m x))

@@ -7,8 +7,8 @@ use Rattle.p8_lexer.specs.declared.word.Word.{Word}
 use Rattle.p8_lexer.specs.declared.word.Word.TheVariants as word_case
 use Rattle.p8_columns.specs.Lines as lines
 use Rattle.p8_columns.specs.Lines.{Kind}
-use Rattle.p8_lines.specs.declared.state.State.{State}
-use Rattle.p8_lines.specs.declared.state.State.TheVariants as state
+use Rattle.p8_lines.specs.declared.state.LineState.{LineState}
+use Rattle.p8_lines.specs.declared.state.LineState.TheVariants as state
 use Rattle.p8_lines.specs.Tokens.{LineToken, word}
 use Rattle.p8_declarations.specs.Constants.{constants_of_row}
 use Rattle.p8_declarations.specs.Variables.{variables_of_row}
@@ -67,7 +67,7 @@ blank_more {h} t w (one_more {ps = ps} {p = p} {ts = ts} {us = us} x y) = moved 
 no_more : {A : Type 0} (f : List A → Part) (h : Heights) (xs : List A) (t : LineToken) (us : List LineToken) (p : Part) → p ≡ f xs → IsPart h (f (xs ++ [])) false (t ∷ (us ++ [])) → IsPart h p false (t ∷ us)
 no_more f h xs t us p e x = subst (λ p. IsPart h p false (t ∷ us)) (ap f (append-nil xs) ∙ sym e) (subst (λ l. IsPart h (f (xs ++ [])) false (t ∷ l)) (append-nil us) x)
 
-pub some_lines : {h : Heights} {q : State} {ts : List LineToken} {o : Option trees.Line} → Valued h line_of_row q ts o → Valued h lines_of_row q ts (lines_in o)
+pub some_lines : {h : Heights} {q : LineState} {ts : List LineToken} {o : Option trees.Line} → Valued h line_of_row q ts o → Valued h lines_of_row q ts (lines_in o)
 some_lines v = record { row = v.row; line = v.line; is = ap (λ o. option_map lines_in o) v.is }
 
 head_as : (t : LineToken) (w : Word) → word t ≡ w → t.place.column ≡ 1 → IsHead w t
@@ -99,7 +99,7 @@ objects_part {h} {zs = zs} {ws = ws} (obj {xs = xs} {ys = ys} {vs = vs} t us i x
 assembly_part : {h : Heights} {xs zs : List trees.Line} {b : Bool} {us ws : List LineToken} → IsPart h (assembly xs) b us → Valued h lines_of_row state.DatLine ws zs → IsPart h (assembly (xs ++ zs)) false (us ++ ws)
 assembly_part {h} {zs = zs} {ws = ws} (dat {xs = xs} {ys = ys} {vs = vs} t us i x d) v = further assembly h xs ys zs t us vs ws (dat t us i x (a_line ws v.row v.line v.is d))
 
-method_part : {h : Heights} {m : MethodTree} {ls : List lines.Line} {b : Bool} {us : List LineToken} (t : LineToken) (ws : List LineToken) (q : State) (k : Kind) → IsTrue (begins_line q) → begins_text q && b ≡ false → IsPart h (method m ls) b us → Valued h kind_of_row q (t ∷ ws) k → IsPart h (method m (ls ++ lines.line t.place k ∷ [])) (is_item k) (us ++ t ∷ ws)
+method_part : {h : Heights} {m : MethodTree} {ls : List lines.Line} {b : Bool} {us : List LineToken} (t : LineToken) (ws : List LineToken) (q : LineState) (k : Kind) → IsTrue (begins_line q) → begins_text q && b ≡ false → IsPart h (method m ls) b us → Valued h kind_of_row q (t ∷ ws) k → IsPart h (method m (ls ++ lines.line t.place k ∷ [])) (is_item k) (us ++ t ∷ ws)
 method_part {h} {m} t ws q k b o (a_method {ls = ls} {vs = vs} public s us i x d) v =
     grouped h (method m (ls ++ lines.line t.place k ∷ [])) (is_item k) s us vs (t ∷ ws) (a_method public s us i x (files.a_line q v.row t ws b o v.line v.is d))
 
@@ -142,7 +142,7 @@ adds {h} t us (more_variables v) (one_more {ts = ts} {us = vs} x y) = moved h _ 
 adds {h} t us (more_objects v) (one_more {ts = ts} {us = vs} x y) = moved h _ ts vs (t ∷ us) (one_more x (objects_part y v))
 adds {h} t us (more_assembly v) (one_more {ts = ts} {us = vs} x y) = moved h _ ts vs (t ∷ us) (one_more x (assembly_part y (some_lines v)))
 
-adds_line : {h : Heights} {m : MethodTree} {ls : List lines.Line} {ps : List Part} {b : Bool} {ts : List LineToken} (t : LineToken) (us : List LineToken) (q : State) (k : Kind) → IsTrue (begins_line q) → begins_text q && b ≡ false → Valued h kind_of_row q (t ∷ us) k → AreParts h (method m ls ∷ ps, b) ts → AreParts h (method m (ls ++ lines.line t.place k ∷ []) ∷ ps, is_item k) (ts ++ t ∷ us)
+adds_line : {h : Heights} {m : MethodTree} {ls : List lines.Line} {ps : List Part} {b : Bool} {ts : List LineToken} (t : LineToken) (us : List LineToken) (q : LineState) (k : Kind) → IsTrue (begins_line q) → begins_text q && b ≡ false → Valued h kind_of_row q (t ∷ us) k → AreParts h (method m ls ∷ ps, b) ts → AreParts h (method m (ls ++ lines.line t.place k ∷ []) ∷ ps, is_item k) (ts ++ t ∷ us)
 adds_line t us q k b o v (first zs d e) = absurd (let z = (one_part zs e).0 in cc)
 adds_line {h} {m} {ls} {ps} t us q k b o v (one_more {ts = ts} {us = vs} x y) = moved h (method m (ls ++ lines.line t.place k ∷ []) ∷ ps, is_item k) ts vs (t ∷ us) (one_more x (method_part t us q k b o y v))
 

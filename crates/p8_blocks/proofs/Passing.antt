@@ -12,7 +12,7 @@ use Rattle.p8_grammar.specs.Heights as heights
 use Rattle.p8_grammar.specs.Lexemes.{Setting, in_method, in_declaration, in_dat, in_data_item, in_action}
 use Rattle.p8_expr.specs.Refusals.{refusal_of}
 use Rattle.p8_lexer.specs.Pieces.{Piece}
-use Rattle.p8_lines.specs.declared.state.State.{State}
+use Rattle.p8_lines.specs.declared.state.LineState.{LineState}
 use Rattle.p8_lines.specs.Diagram.{Phrase, choices, setting_at}
 use Rattle.p8_lines.specs.Tokens.{LineToken, word, terms}
 use Rattle.p8_lines.specs.Lines as line_specs
@@ -64,14 +64,14 @@ not_indent s w e = go (refusal_of s w) (words_refused s w) e
     go (Some r) h e = absurd cc
 
 -- the tokens of a line up to where each line that begins so has an expression that is too high
-pub record High (q : State) (first : LineToken) (others : List LineToken) (p : Place) : Type 0 where
+pub record High (q : LineState) (first : LineToken) (others : List LineToken) (p : Place) : Type 0 where
   pub front : List LineToken
   pub rest : List LineToken
   pub split : others ≡ front ++ rest
   pub begins : line_specs.Begins q (first ∷ front)
   pub again : (more : List LineToken) → Reads q (first ∷ (front ++ more)) (refused (refusal_number refusal.TooNested) p)
 
-module _ {q r : State} {row : List Piece} (h : Phrase) (us vs fs gs : List LineToken) (t : LineToken) (leads : Leads q us row r) (expects : (choices r).phrase ≡ Some h) (is : vs ≡ fs ++ gs) (begins : line_specs.Begins q (us ++ t ∷ fs)) (high : (more : List LineToken) → IsTooHigh h (t ∷ (fs ++ more))) where
+module _ {q r : LineState} {row : List Piece} (h : Phrase) (us vs fs gs : List LineToken) (t : LineToken) (leads : Leads q us row r) (expects : (choices r).phrase ≡ Some h) (is : vs ≡ fs ++ gs) (begins : line_specs.Begins q (us ++ t ∷ fs)) (high : (more : List LineToken) → IsTooHigh h (t ∷ (fs ++ more))) where
   -- from the line's first token on
   high_from : (first : LineToken) (others : List LineToken) → us ++ t ∷ vs ≡ first ∷ others → High q first others t.place
   high_from first others e = go us refl
@@ -101,7 +101,7 @@ module _ {q r : State} {row : List Piece} (h : Phrase) (us vs fs gs : List LineT
             again = λ more. too_high (ap (λ l. first ∷ l) (append_assoc xs (t ∷ fs) more) ∙ ap (λ l. l ++ t ∷ (fs ++ more)) (sym same)) leads expects (high more);
           }
 
-pub high_line : {q : State} {first : LineToken} {others : List LineToken} {n : ℕ} {p : Place} → Reads q (first ∷ others) (refused n p) → n ≡ refusal_number refusal.TooNested → High q first others p
+pub high_line : {q : LineState} {first : LineToken} {others : List LineToken} {n : ℕ} {p : Place} → Reads q (first ∷ others) (refused n p) → n ≡ refusal_number refusal.TooNested → High q first others p
 high_line {q} {first} {others} (too_high {row = row} {us = us} {vs = vs} {t = t} {r = r} {h = h} f leads expects high) n = go high.front refl
   where
     go : (fs : List LineToken) → high.front ≡ fs → High q first others t.place
@@ -124,7 +124,7 @@ no_last l = go l.before l.split
     go (x ∷ xs) e = absurd cc
 
 -- a line that isn't refused at its first token begins with it
-pub begins_line_so : {q : State} {t : LineToken} {ts : List LineToken} {o : Outcome} → is_over q ≡ false → Reads q (t ∷ ts) o → ¬ IsRefusedAt t.place o → line_specs.Begins q (t ∷ [])
+pub begins_line_so : {q : LineState} {t : LineToken} {ts : List LineToken} {o : Outcome} → is_over q ≡ false → Reads q (t ∷ ts) o → ¬ IsRefusedAt t.place o → line_specs.Begins q (t ∷ [])
 begins_line_so {q} {t} {ts} over (line {row = row} {us = us} {rest = rest} e leads) n = go us refl (leads_row leads)
   where
     go : (xs : List LineToken) → us ≡ xs → Row q row us → line_specs.Begins q (t ∷ [])

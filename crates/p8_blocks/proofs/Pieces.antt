@@ -10,8 +10,8 @@ use Rattle.p8_lexer.specs.Words.{capital, word_of_kind}
 use Rattle.p8_grammar.specs.Lexemes.{Lexeme, name, reserved}
 use Rattle.p8_expr.specs.Words.{between_quotes, lexeme_by_word, reserved_as, lexeme_by_kind, lexeme_of_word}
 use Rattle.p8_lexer.specs.Pieces as pieces
-use Rattle.p8_lines.specs.declared.state.State.{State}
-use Rattle.p8_lines.specs.declared.state.State.TheVariants as state
+use Rattle.p8_lines.specs.declared.state.LineState.{LineState}
+use Rattle.p8_lines.specs.declared.state.LineState.TheVariants as state
 use Rattle.p8_lines.specs.Lines.{piece_in}
 use Rattle.p8_lines.specs.Tokens as tokens
 use Rattle.p8_lines.specs.Tokens.{LineToken, lexeme, piece_from, piece}
@@ -67,18 +67,18 @@ unnamed t = go t.kind
 
 -- A token is its piece, but where a local label's name stands.
 
-abbrev pub is_labelled : State → Bool
+abbrev pub is_labelled : LineState → Bool
 is_labelled state.DatLabel = true
 is_labelled state.CallLocal = true
 is_labelled q = false
 
-pub plain_piece : (q : State) (t : LineToken) → is_labelled q ≡ false → piece_in q t ≡ piece t
+pub plain_piece : (q : LineState) (t : LineToken) → is_labelled q ≡ false → piece_in q t ≡ piece t
 plain_piece state.DatLabel t h = absurd cc
 plain_piece state.CallLocal t h = absurd cc
 plain_piece q t h = refl
 
 -- as from states that are not among these
-pub own_piece : (own : State → Bool) → (own state.DatLabel ≡ false) × (own state.CallLocal ≡ false) → (q : State) (t : LineToken) → IsTrue (own q) → piece_in q t ≡ piece t
+pub own_piece : (own : LineState → Bool) → (own state.DatLabel ≡ false) × (own state.CallLocal ≡ false) → (q : LineState) (t : LineToken) → IsTrue (own q) → piece_in q t ≡ piece t
 own_piece own l state.DatLabel t h = absurd (let z = sym l.0 ∙ h in cc)
 own_piece own l state.CallLocal t h = absurd (let z = sym l.1 ∙ h in cc)
 own_piece own l q t h = refl

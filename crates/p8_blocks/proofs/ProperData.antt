@@ -13,7 +13,7 @@ use Rattle.p8_lexer.specs.Words.{spelling}
 use Rattle.p8_lexer.specs.Pieces as pieces
 use Rattle.p8_lexer.specs.Pieces.{Piece}
 use Rattle.p8_lexer.specs.Proper.{AreProper}
-use Rattle.p8_lines.specs.declared.state.State.TheVariants as state
+use Rattle.p8_lines.specs.declared.state.LineState.TheVariants as state
 use Rattle.p8_lines.specs.Signs.{is_condition, takes_two, is_on_memory, takes_one}
 use Rattle.p8_declarations.specs.DataParts.{part_of_word}
 use Rattle.p8_declarations.specs.Lines.{line_of_row}

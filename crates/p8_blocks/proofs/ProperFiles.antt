@@ -10,8 +10,8 @@ use Rattle.p8_columns.specs.Lines as lines
 use Rattle.p8_columns.specs.Lines.{Kind}
 use Rattle.p8_lexer.specs.Pieces.{Piece}
 use Rattle.p8_lexer.specs.Proper.{AreProper}
-use Rattle.p8_lines.specs.declared.state.State.{State}
-use Rattle.p8_lines.specs.declared.state.State.TheVariants as state
+use Rattle.p8_lines.specs.declared.state.LineState.{LineState}
+use Rattle.p8_lines.specs.declared.state.LineState.TheVariants as state
 use Rattle.p8_lines.specs.Tokens.{LineToken, lexeme, terms}
 use Rattle.p8_lines.specs.Lines.{Leads}
 use Rattle.p8_lines.proofs.Readings.{leads_row}
@@ -51,8 +51,8 @@ each_proper ts h = go ts (recursion_from_All (λ t. IsProperLexeme (lexeme_in t)
 
 -- what proper words and pieces give
 pub record Laws : Type 0 where
-  pub pieces : (q : State) → q ≢ state.Statement → RowsAreProper q (is_in_dat q)
-  pub actions : (q : State) → IsTrue (begins_line q) → MethodRowsAreProper q
+  pub pieces : (q : LineState) → q ≢ state.Statement → RowsAreProper q (is_in_dat q)
+  pub actions : (q : LineState) → IsTrue (begins_line q) → MethodRowsAreProper q
   pub constants : ConstantsAreProper
   pub variables : VariablesAreProper
   pub objects : ObjectsAreProper
@@ -64,26 +64,26 @@ pub record Laws : Type 0 where
 module _ (laws : Laws) where
   -- the lines of a block that isn't a method
 
-  module _ {X : Type 0} (P : X → Type 0) (value : List Piece → Option (List X)) (q : State) (each : (us : List LineToken) (row : List Piece) (xs : List X) → Leads q us row state.End → Each IsProperToken us → value row ≡ Some xs → All P xs) where
+  module _ {X : Type 0} (P : X → Type 0) (value : List Piece → Option (List X)) (q : LineState) (each : (us : List LineToken) (row : List Piece) (xs : List X) → Leads q us row state.End → Each IsProperToken us → value row ≡ Some xs → All P xs) where
     declared : {xs : List X} {ts : List LineToken} → Declare within_limits value q xs ts → Each IsProperToken ts → All P xs
     declared no_line h = All-nil P
     declared (a_blank {ts = ts} t e d) h = declared d (each_first IsProperToken ts (t ∷ []) h)
     declared (a_line {xs = xs} {ys = ys} {ts = ts} us row l v d) h = All-append P xs ys (declared d (each_first IsProperToken ts us h)) (each us row ys l (each_rest IsProperToken ts us h) v)
 
-  of_constants : (q : State) → q ≢ state.Statement → is_in_dat q ≡ false → (us : List LineToken) (row : List Piece) (xs : List Constant) → Leads q us row state.End → Each IsProperToken us → constants_of_row row ≡ Some xs → All IsProperConstant xs
+  of_constants : (q : LineState) → q ≢ state.Statement → is_in_dat q ≡ false → (us : List LineToken) (row : List Piece) (xs : List Constant) → Leads q us row state.End → Each IsProperToken us → constants_of_row row ≡ Some xs → All IsProperConstant xs
   of_constants q n a us row xs l h e = laws.constants row xs (subst (λ d. AreProper d 64 row) a (laws.pieces q n us row l (are_proper us h))) e
 
-  of_variables : (q : State) → q ≢ state.Statement → is_in_dat q ≡ false → (us : List LineToken) (row : List Piece) (xs : List Declared) → Leads q us row state.End → Each IsProperToken us → variables_of_row row ≡ Some xs → All IsProperDeclared xs
+  of_variables : (q : LineState) → q ≢ state.Statement → is_in_dat q ≡ false → (us : List LineToken) (row : List Piece) (xs : List Declared) → Leads q us row state.End → Each IsProperToken us → variables_of_row row ≡ Some xs → All IsProperDeclared xs
   of_variables q n a us row xs l h e = laws.variables row xs (subst (λ d. AreProper d 64 row) a (laws.pieces q n us row l (are_proper us h))) e
 
-  of_objects : (q : State) → q ≢ state.Statement → is_in_dat q ≡ false → (us : List LineToken) (row : List Piece) (xs : List Child) → Leads q us row state.End → Each IsProperToken us → objects_of_row row ≡ Some xs → All IsProperChild xs
+  of_objects : (q : LineState) → q ≢ state.Statement → is_in_dat q ≡ false → (us : List LineToken) (row : List Piece) (xs : List Child) → Leads q us row state.End → Each IsProperToken us → objects_of_row row ≡ Some xs → All IsProperChild xs
   of_objects q n a us row xs l h e = laws.objects row xs (subst (λ d. AreProper d 64 row) a (laws.pieces q n us row l (are_proper us h))) e
 
   -- no line of DAT is a statement
-  in_dat : (q : State) → is_in_dat q ≡ true → q ≢ state.Statement
+  in_dat : (q : LineState) → is_in_dat q ≡ true → q ≢ state.Statement
   in_dat q a e = let z = sym (ap is_in_dat e) ∙ a in cc
 
-  of_data : (q : State) → is_in_dat q ≡ true → LinesAreProper q → (us : List LineToken) (row : List Piece) (xs : List sources.Line) → Leads q us row state.End → Each IsProperToken us → lines_of_row row ≡ Some xs → All IsProperLine xs
+  of_data : (q : LineState) → is_in_dat q ≡ true → LinesAreProper q → (us : List LineToken) (row : List Piece) (xs : List sources.Line) → Leads q us row state.End → Each IsProperToken us → lines_of_row row ≡ Some xs → All IsProperLine xs
   of_data q a law us row xs l h e = go (line_of_row row) refl e
     where
       go : (o : Option (Option sources.Line)) → line_of_row row ≡ o → option_map lines_in o ≡ Some xs → All IsProperLine xs

@@ -21,8 +21,8 @@ use Rattle.p8_lexer.specs.Proper.{AreProper}
 use Rattle.p8_lines.specs.declared.sign.Sign.{Sign}
 use Rattle.p8_lines.specs.declared.sign.Sign.TheVariants as sign
 use Rattle.p8_lines.specs.declared.arrow.Arrow.{Arrow}
-use Rattle.p8_lines.specs.declared.state.State.{State}
-use Rattle.p8_lines.specs.declared.state.State.TheVariants as state
+use Rattle.p8_lines.specs.declared.state.LineState.{LineState}
+use Rattle.p8_lines.specs.declared.state.LineState.TheVariants as state
 use Rattle.p8_lines.specs.Signs.{Matches, is_size, is_condition, takes_two, is_on_memory, takes_one, is_flag, is_write, is_label}
 use Rattle.p8_lines.specs.Diagram.{Phrase, choices, setting_at}
 use Rattle.p8_lines.specs.Tokens as tokens
@@ -155,7 +155,7 @@ from_lexeme (lexemes.name n) w p h some = h
 from_lexeme (lexemes.string s) w p h some = (some s refl, h)
 from_lexeme x w p h some = tt
 
-arrows_good : (q : State) → IsTrue (all_good (λ a. good_sign a.sign) (choices q).arrows)
+arrows_good : (q : LineState) → IsTrue (all_good (λ a. good_sign a.sign) (choices q).arrows)
 arrows_good state.End = refl
 arrows_good q = refl
 
@@ -163,7 +163,7 @@ abbrev phrase_good : Option Phrase → Bool
 phrase_good None = true
 phrase_good (Some h) = all_good_behind (λ a. good_sign a.sign) h
 
-phrases_good : (q : State) → IsTrue (phrase_good (choices q).phrase)
+phrases_good : (q : LineState) → IsTrue (phrase_good (choices q).phrase)
 phrases_good state.End = refl
 phrases_good q = refl
 
@@ -172,7 +172,7 @@ abbrev label_sign : Sign → Bool
 label_sign sign.Label = true
 label_sign s = false
 
-label_arrows : (q : State) → is_labelled q ≡ true → IsTrue (all_good (λ a. label_sign a.sign) (choices q).arrows)
+label_arrows : (q : LineState) → is_labelled q ≡ true → IsTrue (all_good (λ a. label_sign a.sign) (choices q).arrows)
 label_arrows state.DatLabel h = refl
 label_arrows state.CallLocal h = refl
 label_arrows q h = absurd cc
@@ -181,12 +181,12 @@ on_label : (s : Sign) (v : Word) (n : ℕ) → Matches s v n → IsTrue (label_s
 on_label sign.Label v n m h = m
 on_label s v n m h = absurd cc
 
-label_proper : (q : State) (t : LineToken) → is_labelled q ≡ true → IsTrue (is_label (tokens.word t)) → IsProperLexeme (lexeme t) → IsTokenPiece (piece_in q t)
+label_proper : (q : LineState) (t : LineToken) → is_labelled q ≡ true → IsTrue (is_label (tokens.word t)) → IsProperLexeme (lexeme t) → IsTokenPiece (piece_in q t)
 label_proper state.DatLabel t h l is = let x = named_label t l in subst (λ o. IsWord (unwrap_or o [])) (sym x.1) (name_word (lexeme t) x.0 x.1 is)
 label_proper state.CallLocal t h l is = let x = named_label t l in subst (λ o. IsWord (unwrap_or o [])) (sym x.1) (name_word (lexeme t) x.0 x.1 is)
 label_proper q t h l is = absurd cc
 
-token_proper : (q r : State) (t : LineToken) → Follows (choices q).arrows t r → IsProperLexeme (lexeme t) → IsTokenPiece (piece_in q t)
+token_proper : (q r : LineState) (t : LineToken) → Follows (choices q).arrows t r → IsProperLexeme (lexeme t) → IsTokenPiece (piece_in q t)
 token_proper q r t f h = go (is_labelled q) refl
   where
     go : (b : Bool) → is_labelled q ≡ b → IsTokenPiece (piece_in q t)
@@ -197,7 +197,7 @@ token_proper q r t f h = go (is_labelled q) refl
         let x = taken (λ a. good_sign a.sign) f (arrows_good q) in
         subst IsTokenPiece (sym (plain_piece q t e)) (from_lexeme (lexeme t) (tokens.word t) t.place h (sign_some t x.arrow.sign x.is x.good))
 
-token_behind_proper : (q r : State) (p : Phrase) (us : List LineToken) (t : LineToken) → (choices q).phrase ≡ Some p → Follows (behind p us) t r → IsProperLexeme (lexeme t) → IsTokenPiece (piece t)
+token_behind_proper : (q r : LineState) (p : Phrase) (us : List LineToken) (t : LineToken) → (choices q).phrase ≡ Some p → Follows (behind p us) t r → IsProperLexeme (lexeme t) → IsTokenPiece (piece t)
 token_behind_proper q r p us t e f h =
     let x = taken_behind (λ a. good_sign a.sign) p us f (subst (λ o. IsTrue (phrase_good o)) e (phrases_good q)) in
     from_lexeme (lexeme t) (tokens.word t) t.place h (sign_some t x.arrow.sign x.is x.good)
@@ -237,7 +237,7 @@ abbrev fits : Bool → Option Phrase → Bool
 fits dat None = true
 fits dat (Some h) = is_value h.setting && is_same (is_dat h.setting) dat
 
-abbrev fits_at : (State → Bool) → Bool → State → Bool
+abbrev fits_at : (LineState → Bool) → Bool → LineState → Bool
 fits_at own dat q = if own q then fits dat (choices q).phrase else true
 
 both : (a b : Bool) → IsTrue (a && b) → IsTrue a × IsTrue b
@@ -251,14 +251,14 @@ SpelledAreProper = (s : Setting) (ts : List Token) (e : Tree) → IsTrue (is_val
 abbrev pub ActionsAreProper : Type 0
 ActionsAreProper = (ts : List Token) (e : Tree) → IsExpression in_action e ts → grammar.AreProper ts → IsProperAction e
 
-module _ (spelled : SpelledAreProper) (own : State → Bool) (dat : Bool) (closed : (q : State) → IsTrue (is_closed own q)) (fitting : (q : State) → IsTrue (fits_at own dat q)) where
-  tree_proper : (q : State) (p : Phrase) (us : List LineToken) (e : Tree) → (choices q).phrase ≡ Some p → IsTrue (own q) → IsExpression p.setting e (terms us) → grammar.AreProper (terms us) → IsProperTree dat e
+module _ (spelled : SpelledAreProper) (own : LineState → Bool) (dat : Bool) (closed : (q : LineState) → IsTrue (is_closed own q)) (fitting : (q : LineState) → IsTrue (fits_at own dat q)) where
+  tree_proper : (q : LineState) (p : Phrase) (us : List LineToken) (e : Tree) → (choices q).phrase ≡ Some p → IsTrue (own q) → IsExpression p.setting e (terms us) → grammar.AreProper (terms us) → IsProperTree dat e
   tree_proper q p us e some o is a =
       let fit : IsTrue (fits dat (Some p)) = subst (λ o. IsTrue (fits dat o)) some (subst (λ b. IsTrue (if b then fits dat (choices q).phrase else true)) o (fitting q)) in
       let x = both (is_value p.setting) (is_same (is_dat p.setting) dat) fit in
       subst (λ d. IsProperTree d e) (same_if (is_dat p.setting) dat x.1) (spelled p.setting (terms us) e x.0 is a)
 
-  pub rows : {q s : State} {us : List LineToken} {row : List Piece} → Leads q us row s → grammar.AreProper (terms us) → IsTrue (own q) → AreProper dat 64 row
+  pub rows : {q s : LineState} {us : List LineToken} {row : List Piece} → Leads q us row s → grammar.AreProper (terms us) → IsTrue (own q) → AreProper dat 64 row
   rows nowhere a o = tt
   rows (by_token {q = q} {r = r} {row = row} {t = t} {ts = ts} f y) a o =
       joined dat (piece_in q t) row (token_proper q r t f (All-head IsToken (term t) (terms ts) a)) (rows y (All-tail IsToken (term t) (terms ts) a) (own_next own closed q r t f o))
@@ -270,43 +270,43 @@ module _ (spelled : SpelledAreProper) (own : State → Bool) (dat : Bool) (close
 
 -- DAT, and all else but the beginning of a statement
 
-abbrev within_dat : State → Bool
+abbrev within_dat : LineState → Bool
 within_dat state.End = true
 within_dat state.LineEnd = true
 within_dat q = is_dat (setting_at q)
 
-abbrev elsewhere : State → Bool
+abbrev elsewhere : LineState → Bool
 elsewhere state.End = true
 elsewhere state.LineEnd = true
 elsewhere state.Statement = false
 elsewhere q = not (is_dat (setting_at q))
 
-dat_closed : (q : State) → IsTrue (is_closed within_dat q)
+dat_closed : (q : LineState) → IsTrue (is_closed within_dat q)
 dat_closed state.End = refl
 dat_closed q = refl
 
-dat_fits : (q : State) → IsTrue (fits_at within_dat true q)
+dat_fits : (q : LineState) → IsTrue (fits_at within_dat true q)
 dat_fits state.End = refl
 dat_fits q = refl
 
-others_closed : (q : State) → IsTrue (is_closed elsewhere q)
+others_closed : (q : LineState) → IsTrue (is_closed elsewhere q)
 others_closed state.End = refl
 others_closed q = refl
 
-others_fit : (q : State) → IsTrue (fits_at elsewhere false q)
+others_fit : (q : LineState) → IsTrue (fits_at elsewhere false q)
 others_fit state.End = refl
 others_fit q = refl
 
-pub rows_proper : SpelledAreProper → (q : State) (dat : Bool) → is_in_dat q ≡ dat → q ≢ state.Statement → RowsAreProper q dat
+pub rows_proper : SpelledAreProper → (q : LineState) (dat : Bool) → is_in_dat q ≡ dat → q ≢ state.Statement → RowsAreProper q dat
 rows_proper spelled q true e n us row l a = rows spelled within_dat true dat_closed dat_fits l a (own_dat q e)
   where
-    own_dat : (q : State) → is_dat (setting_at q) ≡ true → IsTrue (within_dat q)
+    own_dat : (q : LineState) → is_dat (setting_at q) ≡ true → IsTrue (within_dat q)
     own_dat state.End h = refl
     own_dat state.LineEnd h = refl
     own_dat q h = h
 rows_proper spelled q false e n us row l a = rows spelled elsewhere false others_closed others_fit l a (own_other q e n)
   where
-    own_other : (q : State) → is_dat (setting_at q) ≡ false → q ≢ state.Statement → IsTrue (elsewhere q)
+    own_other : (q : LineState) → is_dat (setting_at q) ≡ false → q ≢ state.Statement → IsTrue (elsewhere q)
     own_other state.End h n = refl
     own_other state.LineEnd h n = refl
     own_other state.Statement h n = absurd (n refl)
@@ -324,11 +324,11 @@ abbrev opened : Option Phrase → Bool
 opened None = true
 opened (Some h) = not (is_dat h.setting) && all_good_behind (λ a. elsewhere a.to && ends_so (not (is_value h.setting)) a.sign) h
 
-arrows_open : (q : State) → IsTrue (if begins_line q then all_good (λ a. elsewhere a.to) (choices q).arrows else true)
+arrows_open : (q : LineState) → IsTrue (if begins_line q then all_good (λ a. elsewhere a.to) (choices q).arrows else true)
 arrows_open state.Statement = refl
 arrows_open q = refl
 
-phrases_open : (q : State) → IsTrue (if begins_line q then opened (choices q).phrase else true)
+phrases_open : (q : LineState) → IsTrue (if begins_line q then opened (choices q).phrase else true)
 unfolding role_of
 phrases_open state.Statement = refl
 phrases_open q = refl
@@ -365,10 +365,10 @@ module _ (spelled : SpelledAreProper) (actions : ActionsAreProper) where
   by_setting in_data_item e p ts row n is a low are = absurd cc
   by_setting in_action e p ts row n is a low are = action_done e ts is a low
 
-  from_elsewhere : {q s : State} {us : List LineToken} {row : List Piece} → Leads q us row s → grammar.AreProper (terms us) → IsTrue (elsewhere q) → AreProper false 64 row
+  from_elsewhere : {q s : LineState} {us : List LineToken} {row : List Piece} → Leads q us row s → grammar.AreProper (terms us) → IsTrue (elsewhere q) → AreProper false 64 row
   from_elsewhere l a o = rows spelled elsewhere false others_closed others_fit l a o
 
-  method_row : {q s : State} {us : List LineToken} {row : List Piece} → Leads q us row s → IsTrue (begins_line q) → grammar.AreProper (terms us) → IsProperRow row
+  method_row : {q s : LineState} {us : List LineToken} {row : List Piece} → Leads q us row s → IsTrue (begins_line q) → grammar.AreProper (terms us) → IsProperRow row
   method_row nowhere b a = tt
   method_row (by_token {q = q} {r = r} {row = row} {t = t} {ts = ts} f y) b a =
       let x = taken (λ a. elsewhere a.to) f (begun (begins_line q) (arrows_open q) b) in
@@ -382,5 +382,5 @@ module _ (spelled : SpelledAreProper) (actions : ActionsAreProper) where
       let are = joined false (piece t) row (token_behind_proper q r h (first ∷ others) t some f (All-head IsToken (term t) (terms ts) rest)) (from_elsewhere y (All-tail IsToken (term t) (terms ts) rest) (subst (λ r. IsTrue (elsewhere r)) x.goes so.0)) in
       subst (λ b. IsProperBy b e (pieces.tree e first.place ∷ piece t ∷ row)) (sym (item_by t (is_value h.setting) x.arrow.sign e first.place row x.is so.1)) (by_setting h.setting e first.place (terms (first ∷ others)) (piece t ∷ row) good.0 is (left (first ∷ others) (t ∷ ts) a) low are)
 
-  pub method_rows_proper : (q : State) → IsTrue (begins_line q) → MethodRowsAreProper q
+  pub method_rows_proper : (q : LineState) → IsTrue (begins_line q) → MethodRowsAreProper q
   method_rows_proper q b us row l a = method_row l b a

@@ -3,7 +3,7 @@ use Rattle.std.proofs.Common.{◌≡◌, ◌⊎◌, inl, inr, List, Option, Some
 use Rattle.std.specs.Prelude.{IsSome, option_map}
 use Rattle.p8_tree.specs.Sources.{Line}
 use Rattle.p8_lexer.specs.Pieces.{Piece}
-use Rattle.p8_lines.specs.declared.state.State.{State}
+use Rattle.p8_lines.specs.declared.state.LineState.{LineState}
 use Rattle.p8_lines.specs.Tokens.{LineToken}
 use Rattle.p8_lines.specs.Lines.{read, line, Reads, Row}
 use Rattle.p8_declarations.specs.declared.lines.DatRow.{DatRow}
@@ -14,15 +14,15 @@ use Rattle.p8_lines.proofs.Readings.{leads_row}
 use Rattle.p8_blocks.proofs.Following.{Has}
 
 -- the row that was read, with its tokens
-record Read (q : State) (row : List Piece) : Type 0 where
+record Read (q : LineState) (row : List Piece) : Type 0 where
   tokens : List LineToken
   is : Row q row tokens
 
-row_read : {q : State} {ts rest : List LineToken} {row : List Piece} → Reads q ts (read row rest) → Read q row
+row_read : {q : LineState} {ts rest : List LineToken} {row : List Piece} → Reads q ts (read row rest) → Read q row
 row_read (line {us = us} split leads) = record { tokens = us; is = leads_row leads }
 
 -- what is read from one of two states has a value, where all lines from both have
-pub value_read : {V : Type 0} (value : List Piece → Option V) (a b : State) → HaveValues value a → HaveValues value b → (q : State) → (q ≡ a) ⊎ (q ≡ b) → {ts rest : List LineToken} {row : List Piece} → Reads q ts (read row rest) → Has (value row)
+pub value_read : {V : Type 0} (value : List Piece → Option V) (a b : LineState) → HaveValues value a → HaveValues value b → (q : LineState) → (q ≡ a) ⊎ (q ≡ b) → {ts rest : List LineToken} {row : List Piece} → Reads q ts (read row rest) → Has (value row)
 value_read value a b x y q (inl e) {row = row} r =
     let z = row_read r in
     let v = x row z.tokens (subst (λ q. Row q row z.tokens) e z.is) in

@@ -13,8 +13,8 @@ use Rattle.p8_columns.specs.declared.room.Room.TheVariants as room
 use Rattle.p8_columns.specs.Lines as lines
 use Rattle.p8_columns.specs.Columns.{open_for, innermost, HasRoom}
 use Rattle.p8_lexer.specs.Pieces.{Piece}
-use Rattle.p8_lines.specs.declared.state.State.{State}
-use Rattle.p8_lines.specs.declared.state.State.TheVariants as state
+use Rattle.p8_lines.specs.declared.state.LineState.{LineState}
+use Rattle.p8_lines.specs.declared.state.LineState.TheVariants as state
 use Rattle.p8_lines.specs.Diagram.{setting_at}
 use Rattle.p8_lines.specs.Tokens.{LineToken, word}
 use Rattle.p8_lines.specs.Lines as line_specs
@@ -68,7 +68,7 @@ room_in (no_loop h c) e = absurd cc
 room_in (item h g c) e = absurd cc
 room_in (after_other h g c) e = absurd cc
 
-loop_state : (q : State) (w : Word) → IsTrue (leaves_loop q w) → q ≡ state.Statement
+loop_state : (q : LineState) (w : Word) → IsTrue (leaves_loop q w) → q ≡ state.Statement
 loop_state state.Statement w h = refl
 loop_state q w h = absurd cc
 
@@ -208,7 +208,7 @@ module _ (all : AllValues) where
     lacks_loop (ks, c, k, o) = subst (λ ks. IsOutsideLoop ks t) (same_lines k).0 o
 
     -- a line that is entered lacks none
-    entered_lacks : (q : State) → Enters ls b t (from q) → ¬ HasNoLoop ls q t → ¬ LacksOpener ts t × ¬ LacksLoop ts t
+    entered_lacks : (q : LineState) → Enters ls b t (from q) → ¬ HasNoLoop ls q t → ¬ LacksOpener ts t × ¬ LacksLoop ts t
     entered_lacks q e l = (
       λ o. not_barred ls b t e (lacks_opener o),
       λ o.
@@ -237,7 +237,7 @@ module _ (all : AllValues) where
         go (chain_over x c) y = by_its_word y
         go (after_other x g c) y = by_its_word y
 
-    unread_refused : (us : List LineToken) {n : ℕ} → word t ≢ word_case.LineEnd → ¬ IsHead t → NumberAt ts t n → ((q : State) → Enters ls b t (from q) → ¬ HasNoLoop ls q t → ⊥) → IsRefused (ts ++ t ∷ us) n t.place
+    unread_refused : (us : List LineToken) {n : ℕ} → word t ≢ word_case.LineEnd → ¬ IsHead t → NumberAt ts t n → ((q : LineState) → Enters ls b t (from q) → ¬ HasNoLoop ls q t → ⊥) → IsRefused (ts ++ t ∷ us) n t.place
     unread_refused us n i number never =
         let none = unread_ends all t (walk_any within_limits w) n i never in
         record {
@@ -250,12 +250,12 @@ module _ (all : AllValues) where
           refusal = unfit none number;
         }
 
-    outside_at : (q : State) → Enters ls b t (from q) → HasNoLoop ls q t → NumberAt ts t (refusal_number LoopWord)
+    outside_at : (q : LineState) → Enters ls b t (from q) → HasNoLoop ls q t → NumberAt ts t (refusal_number LoopWord)
     outside_at q e l =
         let same = loop_state q (word t) l.0 in
         refusals.no_loop (ls, b, walk_ends all.kinds (walk_any within_limits w), record { leaves = loop_word all q (word t) l.0; room = room_in (subst (λ q. Enters ls b t (from q)) same e) refl; outside = l.1 })
 
-    module _ (q : State) (n : word t ≢ word_case.LineEnd) (i : ¬ IsHead t) (e : Enters ls b t (from q)) where
+    module _ (q : LineState) (n : word t ≢ word_case.LineEnd) (i : ¬ IsHead t) (e : Enters ls b t (from q)) where
       -- read, and too deep
 
       deep_stops : IsTooDeep ls q t → ¬ BeginsWithinLimits (ts ++ t ∷ [])
@@ -401,7 +401,7 @@ module _ (all : AllValues) where
                   high_within all w h line_at_hand (t ∷ us) y ts refl line_begins v vs j (λ later. (let s = from_first t y.token v vs us y.rest whole later in (s.0, ap (λ l. l ++ later) j ∙ s.1)))
 
   -- whether a line opens a block too many is known
-  too_deep_or_not : (ls : List lines.Line) (q : State) (t : LineToken) → IsTooDeep ls q t ⊎ ¬ IsTooDeep ls q t
+  too_deep_or_not : (ls : List lines.Line) (q : LineState) (t : LineToken) → IsTooDeep ls q t ⊎ ¬ IsTooDeep ls q t
   too_deep_or_not ls q t = go (opens q (word t)) refl (cases_lt (length (open_for t.place.column ls) + 1) greatest_depth)
     where
       go : (b : Bool) → opens q (word t) ≡ b → (length (open_for t.place.column ls) + 1 < greatest_depth) ⊎ (greatest_depth ≤ length (open_for t.place.column ls) + 1) → IsTooDeep ls q t ⊎ ¬ IsTooDeep ls q t

@@ -15,8 +15,8 @@ use Rattle.p8_grammar.proofs.Live.{dead}
 use Rattle.p8_expr.specs.Words.{lexeme_of_word}
 use Rattle.p8_columns.specs.Lines.{Kind, Plain, If, ElseIf, Else, Repeat, End, Case, Item, Other}
 use Rattle.p8_lexer.specs.Pieces.{Piece, tree}
-use Rattle.p8_lines.specs.declared.state.State.{State}
-use Rattle.p8_lines.specs.declared.state.State.TheVariants as state
+use Rattle.p8_lines.specs.declared.state.LineState.{LineState}
+use Rattle.p8_lines.specs.declared.state.LineState.TheVariants as state
 use Rattle.p8_lines.specs.Diagram.{choices}
 use Rattle.p8_lines.specs.Tokens.{LineToken, word, lexeme, term, piece_from, piece}
 use Rattle.p8_lines.specs.Lines as line_specs
@@ -27,7 +27,7 @@ use Rattle.p8_blocks.proofs.Pieces.{is_labelled, plain_piece}
 use Rattle.p8_lines.proofs.Ways.{begins}
 use Rattle.p8_statements.specs.declared.role.Role.{Role}
 use Rattle.p8_statements.specs.declared.role.Role.TheVariants as role
-use Rattle.p8_statements.specs.declared.row.Sign.{Sign}
+use Rattle.p8_statements.specs.declared.statement_pieces.Sign.{Sign}
 use Rattle.p8_statements.specs.Roles.{role_of}
 use Rattle.p8_statements.specs.Rows.{Reading, ◌▶◌, word_in, ends, ending, value_in}
 use Rattle.p8_statements.specs.Statements.{maybe_value, course, is_last_colon, line, tests_after, is_item, statement, kind_of_row}
@@ -158,13 +158,13 @@ statement_says t us k (line_specs.phrase {h = p} {e = a} {row = row} {first = fi
     subst (λ t. Says (is_loop_word (word t)) (is_opener_word (word t)) k) firsts (says_with (sym n.0) (sym n.1) (of_action a first.place (piece next ∷ row) k e h))
 
 -- the first piece of a line that begins with no expression
-pub begins_with : {q : State} {row : List Piece} {ts : List LineToken} (t : LineToken) (us : List LineToken) → Row q row ts → (choices q).phrase ≡ None → is_labelled q ≡ false → ts ≡ t ∷ us → (rest : List Piece) × (row ≡ piece t ∷ rest)
+pub begins_with : {q : LineState} {row : List Piece} {ts : List LineToken} (t : LineToken) (us : List LineToken) → Row q row ts → (choices q).phrase ≡ None → is_labelled q ≡ false → ts ≡ t ∷ us → (rest : List Piece) × (row ≡ piece t ∷ rest)
 begins_with t us over n l e = absurd cc
 begins_with t us (line_specs.token {q = q} {row = row} {t = first} f x) n l e = let firsts : first ≡ t = cc in (row, ap (λ x. x ∷ row) (plain_piece q first l) ∙ ap (λ t. piece t ∷ row) firsts)
 begins_with t us (line_specs.phrase others p x f y) n l e = absurd (let z = sym n ∙ p in cc)
 
 -- what a line says, by the state that it is read from
-pub line_says : (q : State) (row : List Piece) (t : LineToken) (us : List LineToken) (k : Kind) → IsTrue (begins_line q) → Row q row (t ∷ us) → kind_of_row row ≡ Some k → IsTrue (suits q k) → Says (leaves_loop q (word t)) (opens q (word t)) k
+pub line_says : (q : LineState) (row : List Piece) (t : LineToken) (us : List LineToken) (k : Kind) → IsTrue (begins_line q) → Row q row (t ∷ us) → kind_of_row row ≡ Some k → IsTrue (suits q k) → Says (leaves_loop q (word t)) (opens q (word t)) k
 line_says state.Statement row t us k b x e h = statement_says t us k x refl e h
 line_says state.ChainLine row t us (ElseIf n c) b x e h = record { loops = λ i. refl; depth = refl }
 line_says state.ChainLine row t us Else b x e h = record { loops = λ i. refl; depth = refl }

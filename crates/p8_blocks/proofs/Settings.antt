@@ -4,8 +4,8 @@ use Rattle.std.specs.Prelude.{IsTrue, if◌then◌else◌, ◌&&◌, ◌==◌, n
 use Rattle.p8_lexer.specs.declared.word.Word.{Word}
 use Rattle.p8_lexer.specs.declared.word.Word.TheVariants as word_case
 use Rattle.p8_grammar.specs.Lexemes.{Setting, in_method, in_declaration, in_dat, is_dat}
-use Rattle.p8_lines.specs.declared.state.State.{State}
-use Rattle.p8_lines.specs.declared.state.State.TheVariants as state
+use Rattle.p8_lines.specs.declared.state.LineState.{LineState}
+use Rattle.p8_lines.specs.declared.state.LineState.TheVariants as state
 use Rattle.p8_lines.specs.Diagram.{setting_at}
 use Rattle.p8_lexer.specs.Pieces.{Piece}
 use Rattle.p8_lines.specs.Tokens.{LineToken, word}
@@ -99,7 +99,7 @@ declared_setting (objects xs ∷ ps) h = refl
 declared_setting (assembly xs ∷ ps) h = refl
 declared_setting (method m ls ∷ ps) h = absurd cc
 
-pub entered_setting : (q : State) → IsTrue (begins_line q) → setting_at q ≡ in_method
+pub entered_setting : (q : LineState) → IsTrue (begins_line q) → setting_at q ≡ in_method
 entered_setting state.Statement h = refl
 entered_setting state.ChainLine h = refl
 entered_setting state.LoopEndLine h = refl
@@ -132,14 +132,14 @@ line_plain (objects xs ∷ ps) = (refl, refl)
 line_plain (assembly xs ∷ ps) = (refl, refl)
 line_plain (method m ls ∷ ps) = (refl, refl)
 
-pub begins_plain : (q : State) → IsTrue (begins_line q) → is_labelled q ≡ false
+pub begins_plain : (q : LineState) → IsTrue (begins_line q) → is_labelled q ≡ false
 begins_plain state.Statement h = refl
 begins_plain state.ChainLine h = refl
 begins_plain state.LoopEndLine h = refl
 begins_plain state.CaseItem h = refl
 begins_plain q h = absurd cc
 
-dat_line : (q : State) → is_dat (setting_at q) ≡ true → IsTrue (in_dat_line q)
+dat_line : (q : LineState) → is_dat (setting_at q) ≡ true → IsTrue (in_dat_line q)
 dat_line state.End h = refl
 dat_line state.LineEnd h = refl
 dat_line q h = h
@@ -157,7 +157,7 @@ record After (y : Progress) (s : Setting) (c : Bool) (us : List LineToken) : Typ
   colon : (is_dat (part_setting y.0) && colon_after c us) ≡ false
 
 -- a line that is read from a state with this setting
-read_line : {q : State} {row : List Piece} {us : List LineToken} (s : Setting) → Row q row us → setting_at q ≡ s → is_labelled q ≡ false → is_over q ≡ false → (c : Bool) → (setting_from s c us ≡ s) × ((is_dat s && colon_after c us) ≡ false)
+read_line : {q : LineState} {row : List Piece} {us : List LineToken} (s : Setting) → Row q row us → setting_at q ≡ s → is_labelled q ≡ false → is_over q ≡ false → (c : Bool) → (setting_from s c us ≡ s) × ((is_dat s && colon_after c us) ≡ false)
 read_line {q} {row} {us} s r e l o c = (
   quiet_keeps s c (subst (λ s. Quiet (is_dat s) c us) e (in_row r c (subst (λ l. IsTrue (implies l c)) (sym l) refl))),
   go (is_dat (setting_at q)) refl,
@@ -203,5 +203,5 @@ module _ (all : AllValues) where
   walk_colon w = (walk_after w).colon
 
 -- a line that is begun changes nothing
-pub begun_setting : {q : State} (c : Bool) (us : List LineToken) → is_labelled q ≡ false → line_specs.Begins q us → setting_from (setting_at q) c us ≡ setting_at q
+pub begun_setting : {q : LineState} (c : Bool) (us : List LineToken) → is_labelled q ≡ false → line_specs.Begins q us → setting_from (setting_at q) c us ≡ setting_at q
 begun_setting {q} c us l (rest, row, r) = quiet_keeps (setting_at q) c (first_quiet us rest (in_row r c (subst (λ l. IsTrue (implies l c)) (sym l) refl)))

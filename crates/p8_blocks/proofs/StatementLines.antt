@@ -7,8 +7,8 @@ use Rattle.p8_tree.specs.Statements.{Before, From, Do, Next, Quit, Return, Abort
 use Rattle.p8_lexer.specs.declared.word.Word.TheVariants as words
 use Rattle.p8_columns.specs.Lines.{Kind, Plain, If, ElseIf, Else, Repeat, End, Case, Item as ItemLine, Other}
 use Rattle.p8_lexer.specs.Pieces.{Piece, word}
-use Rattle.p8_lines.specs.declared.state.State.{State}
-use Rattle.p8_lines.specs.declared.state.State.TheVariants as state
+use Rattle.p8_lines.specs.declared.state.LineState.{LineState}
+use Rattle.p8_lines.specs.declared.state.LineState.TheVariants as state
 use Rattle.p8_lines.specs.Tokens.{LineToken}
 use Rattle.p8_lines.specs.Lines.{Row}
 use Rattle.p8_statements.specs.Roles.{role_of}
@@ -19,7 +19,7 @@ use Rattle.p8_blocks.proofs.Closed.{is_closed}
 use Rattle.p8_blocks.proofs.Following.{Has, found, mapped, Keeps, both, holds}
 use Rattle.p8_blocks.proofs.StatementPieces.{Each, each}
 
-abbrev own : State → Bool
+abbrev own : LineState → Bool
 own state.End = true
 own state.LineEnd = true
 own state.Statement = true
@@ -36,16 +36,16 @@ own state.CaseRange = true
 own state.OtherColon = true
 own q = false
 
-closed : (q : State) → IsTrue (is_closed own q)
+closed : (q : LineState) → IsTrue (is_closed own q)
 closed state.End = refl
 closed q = refl
 
 -- a row is a line of a kind that suits the state
-abbrev pub HasKind : State → Option Kind → Type 0
+abbrev pub HasKind : LineState → Option Kind → Type 0
 HasKind q o = (k : Kind) × (o ≡ Some k) × IsTrue (suits q k)
 
 -- what is left of a line at each state
-abbrev Goal : State → List Piece → Type 0
+abbrev Goal : LineState → List Piece → Type 0
 Goal state.End row = IsTrue (is_empty row)
 Goal state.LineEnd row = IsTrue (ends row)
 Goal state.Statement row = HasKind state.Statement (kind_of_row row)
@@ -67,14 +67,14 @@ same x = x
 
 -- kinds that suit by their values, and lines that end at once
 
-kind : (q : State) {V : Type 0} (f : V → Kind) {o : Option V} → ((v : V) → IsTrue (suits q (f v))) → Has o → HasKind q (option_map f o)
+kind : (q : LineState) {V : Type 0} (f : V → Kind) {o : Option V} → ((v : V) → IsTrue (suits q (f v))) → Has o → HasKind q (option_map f o)
 kind q f s h = (f h.value, ap (option_map f) h.is, s h.value)
 
 chosen : {X : Type 0} (x : X) (b : Bool) → IsTrue b → Has (if b then Some x else None)
 chosen x true h = found x
 chosen x false h = absurd cc
 
-kind_at_end : (q : State) (k : Kind) (row : List Piece) → IsTrue (suits q k) → IsTrue (ends row) → HasKind q (ending k row)
+kind_at_end : (q : LineState) (k : Kind) (row : List Piece) → IsTrue (suits q k) → IsTrue (ends row) → HasKind q (ending k row)
 kind_at_end q k row s h = go (ends row) h
   where
     go : (b : Bool) → IsTrue b → HasKind q (if b then Some k else None)
@@ -88,7 +88,7 @@ from_counter : (row : List Piece) (o : Option (List ℕ × Place)) → Has o →
 from_counter row None h g = let none = h.is in absurd cc
 from_counter row (Some c) h g = g c.0 c.1
 
-keeps : (q : State) (row : List Piece) → IsTrue (own q) → Keeps same Each Goal q row
+keeps : (q : LineState) (row : List Piece) → IsTrue (own q) → Keeps same Each Goal q row
 unfolding role_of
 keeps state.End row h = record { arrows = tt; phrase = tt }
 keeps state.LineEnd row h = record { arrows = ((λ g p. g), tt); phrase = tt }
@@ -157,7 +157,7 @@ keeps state.CaseRange row h = record {
 keeps state.OtherColon row h = record { arrows = ((λ g p. ap (λ b. if b then Some Other else None) g), tt); phrase = tt }
 keeps q row h = absurd cc
 
-reached : {q : State} {row : List Piece} {ts : List LineToken} → Row q row ts → IsTrue (own q) → Goal q row
+reached : {q : LineState} {row : List Piece} {ts : List LineToken} → Row q row ts → IsTrue (own q) → Goal q row
 reached {q = q} {row = row} r h = subst (Goal q) (same_row row) (holds same Each each own closed (refl, refl) Goal refl keeps r h)
   where
     same_row : (row : List Piece) → map same row ≡ row

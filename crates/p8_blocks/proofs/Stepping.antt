@@ -15,15 +15,15 @@ use Rattle.p8_columns.specs.Lines as lines
 use Rattle.p8_columns.specs.Lines.{Kind}
 use Rattle.p8_columns.specs.Taken.{HasTaken}
 use Rattle.p8_columns.specs.declared.blocks.Blocks.{Blocks}
-use Rattle.p8_lines.specs.declared.state.State.{State}
+use Rattle.p8_lines.specs.declared.state.LineState.{LineState}
 use Rattle.p8_lines.specs.Tokens.{LineToken, word}
 use Rattle.p8_lines.specs.Lines.{refused, Reads}
 use Rattle.p8_statements.specs.Statements.{kind_of_row}
 use Rattle.p8_blocks.specs.Values.{ReadsAs}
 use Rattle.p8_blocks.specs.Reading.{Part, method, Position, at, is_block_word, head_state, line_state, declares, begun_by, Opens, Extends, Step, blank, head, declaration, method_line, Fails, head_fails, declaration_fails, is_begun}
 use Rattle.p8_blocks.specs.Standing.{IsOpen, ArePartsOf, StandsFor, word_of_head, Starts, Inner, IsHeadAt, MayRead, Added, Grown, Begins, Continues}
-use Rattle.p8_blocks.specs.declared.words.Head as head_type
-use Rattle.p8_blocks.specs.declared.words.Head.TheVariants as head_case
+use Rattle.p8_blocks.specs.declared.words.BlockWord as head_type
+use Rattle.p8_blocks.specs.declared.words.BlockWord.TheVariants as head_case
 use Rattle.p8_blocks.specs.declared.first.First.{First}
 use Rattle.p8_blocks.specs.declared.growing.Open as opened
 use Rattle.p8_blocks.specs.declared.growing.Open.TheVariants as open_case
@@ -33,7 +33,7 @@ use Rattle.p8_blocks.specs.Files.{is_item}
 
 -- words that begin blocks
 
-pub is_head : (h : head_type.Head) → is_block_word (word_of_head h) ≡ true
+pub is_head : (h : head_type.BlockWord) → is_block_word (word_of_head h) ≡ true
 is_head head_case.Con = refl
 is_head head_case.Var = refl
 is_head head_case.Obj = refl
@@ -74,7 +74,7 @@ pub same_grown : {ts rest : List LineToken} {b : Option Place} {line : Extended}
 same_grown {ts} {rest} {b} {line} p q ps e h = subst (λ p. Grown (p ∷ ps) ps b ts line rest) (sym e) h
 
 -- a line of a method
-pub method_steps : {ts us rest : List LineToken} {b : Option Place} {first : First} {q : State} {k : Kind} (s : Inner ts us b first) (m : MethodTree) (ls : List lines.Line) (ps : List Part) → MayRead ls (is_begun b) s.token q → ReadsAs kind_of_row q ts k rest → Step (at (method m ls ∷ ps) b) ts (at (method m (ls ++ lines.line first.place k ∷ []) ∷ ps) (if is_item k then Some first.begin else None)) rest
+pub method_steps : {ts us rest : List LineToken} {b : Option Place} {first : First} {q : LineState} {k : Kind} (s : Inner ts us b first) (m : MethodTree) (ls : List lines.Line) (ps : List Part) → MayRead ls (is_begun b) s.token q → ReadsAs kind_of_row q ts k rest → Step (at (method m ls ∷ ps) b) ts (at (method m (ls ++ lines.line first.place k ∷ []) ∷ ps) (if is_item k then Some first.begin else None)) rest
 method_steps {ts} {us} {rest} {b} {first} {q} {k} s m ls ps r h =
     subst (λ ts. Step (at (method m ls ∷ ps) b) ts (at (method m (ls ++ lines.line first.place k ∷ []) ∷ ps) (if is_item k then Some first.begin else None)) rest) (sym s.tokens)
     (subst (λ x. Step (at (method m ls ∷ ps) b) (s.token ∷ us) (at (method m (ls ++ lines.line first.place k ∷ []) ∷ ps) (if is_item k then Some x else None)) rest) s.is.same_begin
@@ -82,13 +82,13 @@ method_steps {ts} {us} {rest} {b} {first} {q} {k} s m ls ps r h =
     (method_line s.not_end s.no_head r.enters r.loops r.shallow (subst (λ ts. ReadsAs kind_of_row q ts k rest) s.tokens h))))
 
 -- a line's head
-pub head_refused : {ts us : List LineToken} {b : Option Place} {first : First} (x : Position) (h : head_type.Head) (n : ℕ) (p : Place) → Starts ts us b first → first.word ≡ word_of_head h → first.place.column ≡ 1 → Reads (head_state (word_of_head h)) us (refused n p) → Fails x ts n p
+pub head_refused : {ts us : List LineToken} {b : Option Place} {first : First} (x : Position) (h : head_type.BlockWord) (n : ℕ) (p : Place) → Starts ts us b first → first.word ≡ word_of_head h → first.place.column ≡ 1 → Reads (head_state (word_of_head h)) us (refused n p) → Fails x ts n p
 head_refused {ts} {us} {b} {first} x h n p s w c r =
     let e : word s.token ≡ word_of_head h = s.is.same_word ∙ w in
     subst (λ ts. Fails x ts n p) (sym s.tokens)
     (head_fails (ap is_block_word e ∙ is_head h, ap (λ (p : Place). p.column) s.is.same_place ∙ c) (subst (λ w. Reads (head_state w) us (refused n p)) (sym e) r))
 
-pub head_steps : {ts us rest : List LineToken} {b : Option Place} {first : First} (x : Position) (h : head_type.Head) (s : Starts ts us b first) (p : Part) → first.word ≡ word_of_head h → first.place.column ≡ 1 → Opens s.token us p rest → Step x ts (at (p ∷ x.parts) None) rest
+pub head_steps : {ts us rest : List LineToken} {b : Option Place} {first : First} (x : Position) (h : head_type.BlockWord) (s : Starts ts us b first) (p : Part) → first.word ≡ word_of_head h → first.place.column ≡ 1 → Opens s.token us p rest → Step x ts (at (p ∷ x.parts) None) rest
 head_steps {ts} {us} {rest} {b} {first} x h s p w c o =
     subst (λ ts. Step x ts (at (p ∷ x.parts) None) rest) (sym s.tokens)
     (head (ap is_block_word (s.is.same_word ∙ w) ∙ is_head h, ap (λ (p : Place). p.column) s.is.same_place ∙ c) o)
@@ -123,7 +123,7 @@ appended_view f xs ys all e = sym (ap (map f) e ∙ go xs)
     go [] = refl
     go (x ∷ xs) = ap (λ zs. f x ∷ zs) (go xs)
 
-pub method_grown : {ts us rest : List LineToken} {b : Option Place} {first : First} {q : State} {k : Kind} {end : ℕ} (s : Inner ts us b first) (m : Method) (ls : List lines.Line) (ps : List Part) → MayRead ls (is_begun b) s.token q → ReadsAs kind_of_row q ts k rest → (blocks : Blocks) (begun : Option Place) → begun ≡ (if is_item k then Some first.begin else None) → HasTaken (ls ++ lines.line first.place k ∷ []) blocks → Grown (method (method_of m) ls ∷ ps) ps b ts (record { block = open_case.Method m blocks; begun = begun; end = end }) rest
+pub method_grown : {ts us rest : List LineToken} {b : Option Place} {first : First} {q : LineState} {k : Kind} {end : ℕ} (s : Inner ts us b first) (m : Method) (ls : List lines.Line) (ps : List Part) → MayRead ls (is_begun b) s.token q → ReadsAs kind_of_row q ts k rest → (blocks : Blocks) (begun : Option Place) → begun ≡ (if is_item k then Some first.begin else None) → HasTaken (ls ++ lines.line first.place k ∷ []) blocks → Grown (method (method_of m) ls ∷ ps) ps b ts (record { block = open_case.Method m blocks; begun = begun; end = end }) rest
 method_grown {ts} {us} {rest} {b} {first} {q} {k} {end} s m ls ps r h blocks begun e t = record {
   part = method (method_of m) (ls ++ lines.line first.place k ∷ []);
   step = subst (λ x. Step (at (method (method_of m) ls ∷ ps) b) ts (at (method (method_of m) (ls ++ lines.line first.place k ∷ []) ∷ ps) x) rest) (sym e) (method_steps s (method_of m) ls ps r h);
@@ -159,5 +159,5 @@ blank_continues {ts} {us} {b} {first} {old} {new} x s w h c d e = record {
   };
 }
 
-pub head_continues : {ts us rest : List LineToken} {b : Option Place} {first : First} {file : Growing} {o : opened.Open} (x : Position) (h : head_type.Head) (s : Starts ts us b first) → first.word ≡ word_of_head h → first.place.column ≡ 1 → (y : Begins s.token us o rest) → StandsFor (at (y.part ∷ x.parts) None) file → Continues x ts file rest
+pub head_continues : {ts us rest : List LineToken} {b : Option Place} {first : First} {file : Growing} {o : opened.Open} (x : Position) (h : head_type.BlockWord) (s : Starts ts us b first) → first.word ≡ word_of_head h → first.place.column ≡ 1 → (y : Begins s.token us o rest) → StandsFor (at (y.part ∷ x.parts) None) file → Continues x ts file rest
 head_continues x h s w c y f = record { next = at (y.part ∷ x.parts) None; step = head_steps x h s y.part w c y.opens; stands = f }

@@ -10,8 +10,8 @@ use Rattle.p8_tree.specs.Refusals.{refusal_number}
 use Rattle.p8_grammar.specs.Lexemes.{in_method}
 use Rattle.p8_columns.specs.Lines as lines
 use Rattle.p8_lexer.specs.Pieces.{Piece}
-use Rattle.p8_lines.specs.declared.state.State.{State}
-use Rattle.p8_lines.specs.declared.state.State.TheVariants as state
+use Rattle.p8_lines.specs.declared.state.LineState.{LineState}
+use Rattle.p8_lines.specs.declared.state.LineState.TheVariants as state
 use Rattle.p8_lines.specs.Diagram.{setting_at}
 use Rattle.p8_lines.specs.Tokens.{LineToken, word}
 use Rattle.p8_lines.specs.Lines as line_specs
@@ -49,11 +49,11 @@ pub record AllValues : Type 0 where
   pub methods : (public : Bool) → HaveValues (method_of_row public) state.MethodName
   pub kinds : AllKinds
 
-valued : {V : Type 0} (value : List Piece → Option V) (q : State) → HaveValues value q → (row : List Piece) (us : List LineToken) → Row q row us → (v : V) × Valued any_height value q us v
+valued : {V : Type 0} (value : List Piece → Option V) (q : LineState) → HaveValues value q → (row : List Piece) (us : List LineToken) → Row q row us → (v : V) × Valued any_height value q us v
 valued value q h row us r = let x = h row us r in (x.0, record { row = row; line = r; is = x.1 })
 
 -- A line that begins with these tokens, which aren't a line, goes on as they do.
-pub row_stops : {q : State} {row : List Piece} {xs : List LineToken} (us ys zs : List LineToken) (t : LineToken) → Row q row xs → xs ++ ys ≡ us ++ t ∷ zs → line_specs.Begins q us → ((row : List Piece) → ¬ Row q row us) → ¬ line_specs.Begins q (us ++ t ∷ []) → ⊥
+pub row_stops : {q : LineState} {row : List Piece} {xs : List LineToken} (us ys zs : List LineToken) (t : LineToken) → Row q row xs → xs ++ ys ≡ us ++ t ∷ zs → line_specs.Begins q us → ((row : List Piece) → ¬ Row q row us) → ¬ line_specs.Begins q (us ++ t ∷ []) → ⊥
 row_stops {q} {row} {xs} us ys zs t r split begins no_line ends = go (compare xs ys us (t ∷ zs) split)
   where
     go : Compared xs ys us (t ∷ zs) → ⊥
@@ -142,7 +142,7 @@ module _ (all : AllValues) where
 
   -- a line that begins with neither
 
-  module _ {x : Progress} {ts : List LineToken} (w : Walk any_height x ts) (t : LineToken) (q : State) (rows : (y : Progress) (xs ys zs : List LineToken) → Line any_height x xs y → xs ++ ys ≡ t ∷ zs → (row : List Piece) × Row q row xs) (completes : (row : List Piece) (us : List LineToken) → Row q row (t ∷ us) → (y : Progress) × Line any_height x (t ∷ us) y) where
+  module _ {x : Progress} {ts : List LineToken} (w : Walk any_height x ts) (t : LineToken) (q : LineState) (rows : (y : Progress) (xs ys zs : List LineToken) → Line any_height x xs y → xs ++ ys ≡ t ∷ zs → (row : List Piece) × Row q row xs) (completes : (row : List Piece) (us : List LineToken) → Row q row (t ∷ us) → (y : Progress) × Line any_height x (t ∷ us) y) where
     at_first : (us : List LineToken) → ((row : List Piece) → ¬ Row q row []) → line_specs.Begins q [] → ¬ line_specs.Begins q (t ∷ []) → StopsAt (ts ++ t ∷ us) (number_of (setting_at q) (word t)) t.place
     at_first us no_line begins ends = record {
       before = ts;
@@ -214,7 +214,7 @@ module _ (all : AllValues) where
 
   -- lines of a method
 
-  pub method_row : {m : MethodTree} {ls : List lines.Line} {ps : List Part} {b : Bool} (t : LineToken) (q : State) → word t ≢ word_case.LineEnd → ¬ IsHead t → Enters ls b t (from q) → (y : Progress) (xs ys zs : List LineToken) → Line any_height (method m ls ∷ ps, b) xs y → xs ++ ys ≡ t ∷ zs → (row : List Piece) × Row q row xs
+  pub method_row : {m : MethodTree} {ls : List lines.Line} {ps : List Part} {b : Bool} (t : LineToken) (q : LineState) → word t ≢ word_case.LineEnd → ¬ IsHead t → Enters ls b t (from q) → (y : Progress) (xs ys zs : List LineToken) → Line any_height (method m ls ∷ ps, b) xs y → xs ++ ys ≡ t ∷ zs → (row : List Piece) × Row q row xs
   method_row t q n i e qs xs ys zs (blank u f) split = let firsts : u ≡ t = cc in absurd (n (ap word (sym firsts) ∙ f))
   method_row t q n i e qs xs ys zs (head u i' o) split = let firsts : u ≡ t = cc in absurd (i (subst IsHead firsts i'))
   method_row t q n i e qs xs ys zs (declaration u n' i' x) split = absurd (not_added x)
@@ -223,7 +223,7 @@ module _ (all : AllValues) where
       let states : r ≡ q = one_state ls b t (subst (λ u. Enters ls b u (from r)) firsts e') e in
       (v.row, subst (λ r. Row r v.row (u ∷ us)) states v.line)
 
-  method_stops : {m : MethodTree} {ls : List lines.Line} {ps : List Part} {b : Bool} {ts : List LineToken} (t : LineToken) (us : List LineToken) (q : State) {n : ℕ} {p : Place} → Walk any_height (method m ls ∷ ps, b) ts → word t ≢ word_case.LineEnd → ¬ IsHead t → Enters ls b t (from q) → ¬ HasNoLoop ls q t → Reads q (t ∷ us) (refused n p) → n ≢ refusal_number TooNested → StopsAt (ts ++ t ∷ us) n p
+  method_stops : {m : MethodTree} {ls : List lines.Line} {ps : List Part} {b : Bool} {ts : List LineToken} (t : LineToken) (us : List LineToken) (q : LineState) {n : ℕ} {p : Place} → Walk any_height (method m ls ∷ ps, b) ts → word t ≢ word_case.LineEnd → ¬ IsHead t → Enters ls b t (from q) → ¬ HasNoLoop ls q t → Reads q (t ∷ us) (refused n p) → n ≢ refusal_number TooNested → StopsAt (ts ++ t ∷ us) n p
   method_stops {m} {ls} {ps} {b} t us q w n i e l r h = line_stops w t q (method_row t q n i e) completes us r h
     where
       completes : (row : List Piece) (us : List LineToken) → Row q row (t ∷ us) → (y : Progress) × Line any_height (method m ls ∷ ps, b) (t ∷ us) y
@@ -233,7 +233,7 @@ module _ (all : AllValues) where
 
   -- a line of a method that is refused before it is read
 
-  pub unread_ends : {m : MethodTree} {ls : List lines.Line} {ps : List Part} {b : Bool} {ts : List LineToken} (t : LineToken) → Walk any_height (method m ls ∷ ps, b) ts → word t ≢ word_case.LineEnd → ¬ IsHead t → ((q : State) → Enters ls b t (from q) → ¬ HasNoLoop ls q t → ⊥) → ¬ Begins (ts ++ t ∷ [])
+  pub unread_ends : {m : MethodTree} {ls : List lines.Line} {ps : List Part} {b : Bool} {ts : List LineToken} (t : LineToken) → Walk any_height (method m ls ∷ ps, b) ts → word t ≢ word_case.LineEnd → ¬ IsHead t → ((q : LineState) → Enters ls b t (from q) → ¬ HasNoLoop ls q t → ⊥) → ¬ Begins (ts ++ t ∷ [])
   unread_ends {m} {ls} {ps} {b} t w n i never = none_begins t [] w (λ qs xs ys rest l e. no_line ys rest l e)
     where
       no_line : {y : Progress} {xs : List LineToken} (ys rest : List LineToken) → Line any_height (method m ls ∷ ps, b) xs y → xs ++ ys ≡ t ∷ rest → ⊥
@@ -242,7 +242,7 @@ module _ (all : AllValues) where
       no_line ys rest (declaration u n' i' x) split = not_added x
       no_line ys rest (method_line u q n' i' e l v) split = let firsts : u ≡ t = cc in never q (subst (λ u. Enters ls b u (from q)) firsts e) (subst (λ u. ¬ HasNoLoop ls q u) firsts l)
 
-  unread : {m : MethodTree} {ls : List lines.Line} {ps : List Part} {b : Bool} {ts : List LineToken} (t : LineToken) (us : List LineToken) → Walk any_height (method m ls ∷ ps, b) ts → word t ≢ word_case.LineEnd → ¬ IsHead t → {n : ℕ} → NumberOf (word t) n → ((q : State) → Enters ls b t (from q) → ¬ HasNoLoop ls q t → ⊥) → StopsAt (ts ++ t ∷ us) n t.place
+  unread : {m : MethodTree} {ls : List lines.Line} {ps : List Part} {b : Bool} {ts : List LineToken} (t : LineToken) (us : List LineToken) → Walk any_height (method m ls ∷ ps, b) ts → word t ≢ word_case.LineEnd → ¬ IsHead t → {n : ℕ} → NumberOf (word t) n → ((q : LineState) → Enters ls b t (from q) → ¬ HasNoLoop ls q t → ⊥) → StopsAt (ts ++ t ∷ us) n t.place
   unread {ts = ts} t us w n i number never = record {
     before = ts;
     token = t;
@@ -262,7 +262,7 @@ module _ (all : AllValues) where
   barred_number {b = b} {t = t} (no_loop h c) = no_opener (either (is_chain_word (word t)) (is_loop_end_word (word t)) (inr (inside b (is_loop_end_word (word t)) h)))
   barred_number (after_other h g c) = by_word in_method
 
-  pub loop_word : (q : State) (w : Word) → IsTrue (leaves_loop q w) → IsTrue (is_loop_word w)
+  pub loop_word : (q : LineState) (w : Word) → IsTrue (leaves_loop q w) → IsTrue (is_loop_word w)
   loop_word state.Statement w h = h
   loop_word q w h = absurd cc
 

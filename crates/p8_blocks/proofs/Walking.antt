@@ -11,8 +11,8 @@ use Rattle.p8_columns.specs.declared.room.Room.TheVariants as room
 use Rattle.p8_columns.specs.Columns.{FitsAs, Fits, FitAfter, AllFit, innermost, HasRoom}
 use Rattle.p8_columns.proofs.Meaning.{fit_together}
 use Rattle.p8_lexer.specs.Pieces.{Piece}
-use Rattle.p8_lines.specs.declared.state.State.{State}
-use Rattle.p8_lines.specs.declared.state.State.TheVariants as state
+use Rattle.p8_lines.specs.declared.state.LineState.{LineState}
+use Rattle.p8_lines.specs.declared.state.LineState.TheVariants as state
 use Rattle.p8_lines.specs.Tokens.{LineToken, word}
 use Rattle.p8_lines.specs.Lines as line_specs
 use Rattle.p8_lines.specs.Lines.{Row, over}
@@ -37,13 +37,13 @@ use Rattle.p8_blocks.proofs.Keeping.{AllKinds, suited}
 use Rattle.p8_blocks.proofs.Parts.{first_part}
 
 -- the first token of a line
-pub first_token : {q : State} {row : List Piece} {us : List LineToken} (test : State → Bool) → test state.End ≡ false → Row q row us → IsTrue (test q) → (t : LineToken) × (ts : List LineToken) × (us ≡ t ∷ ts)
+pub first_token : {q : LineState} {row : List Piece} {us : List LineToken} (test : LineState → Bool) → test state.End ≡ false → Row q row us → IsTrue (test q) → (t : LineToken) × (ts : List LineToken) × (us ≡ t ∷ ts)
 first_token test n over h = absurd (let z = sym n ∙ h in cc)
 first_token test n (line_specs.token {t = t} {ts = ts} f x) h = (t, ts, refl)
 first_token test n (line_specs.phrase {first = first} {t = t} others {ts = ts} p x f y) h = (first, others ++ t ∷ ts, refl)
 
 -- a line of a block that isn't a method
-pub declared : {h : Heights} {ps qs : List Part} {ts : List LineToken} {V : Type 0} {value : List Piece → Option V} {v : V} (q : State) (us : List LineToken) → IsTrue (begins_inside q) → Valued h value q us v → Adds h us ps qs → {b : Bool} → Walk h (ps, b) ts → Walk h (qs, false) (ts ++ us)
+pub declared : {h : Heights} {ps qs : List Part} {ts : List LineToken} {V : Type 0} {value : List Piece → Option V} {v : V} (q : LineState) (us : List LineToken) → IsTrue (begins_inside q) → Valued h value q us v → Adds h us ps qs → {b : Bool} → Walk h (ps, b) ts → Walk h (qs, false) (ts ++ us)
 declared {h} {ps} {qs} {ts} q us i v x w =
     let r = row_of_line h q v.row us v.line in
     let y = first_token begins_inside refl r i in
@@ -68,7 +68,7 @@ first_walk {h} (a_line {xs = xs} {ys = ys} us row l e d) =
     declared state.ConItem us refl v (first_adds us xs ys (filled us ys v) v) (first_walk d)
 
 -- the lines of such a block
-module _ {A : Type 0} {h : Heights} (f : List A → Part) (value : List Piece → Option (List A)) (q : State) (inside : IsTrue (begins_inside q)) (adds : (ps : List Part) (xs ys : List A) (us : List LineToken) → Valued h value q us ys → Adds h us (f xs ∷ ps) (f (xs ++ ys) ∷ ps)) where
+module _ {A : Type 0} {h : Heights} (f : List A → Part) (value : List Piece → Option (List A)) (q : LineState) (inside : IsTrue (begins_inside q)) (adds : (ps : List Part) (xs ys : List A) (us : List LineToken) → Valued h value q us ys → Adds h us (f xs ∷ ps) (f (xs ++ ys) ∷ ps)) where
   more_walk : (ps : List Part) (xs : List A) (ts : List LineToken) {ys : List A} {vs : List LineToken} → Declare h value q ys vs → Walk h (f xs ∷ ps, false) ts → Walk h (f (xs ++ ys) ∷ ps, false) (ts ++ vs)
   more_walk ps xs ts no_line w = subst (λ xs. Walk h (f xs ∷ ps, false) (ts ++ [])) (sym (append-nil xs)) (subst (λ ts. Walk h (f xs ∷ ps, false) ts) (sym (append-nil ts)) w)
   more_walk ps xs ts (a_blank {xs = ys} {ts = vs} t e d) w = subst (λ l. Walk h (f (xs ++ ys) ∷ ps, false) l) (append_assoc ts vs (t ∷ [])) (more (more_walk ps xs ts d w) (blank t e))
@@ -79,7 +79,7 @@ module _ {A : Type 0} {h : Heights} (f : List A → Part) (value : List Piece �
       (declared q us inside v (adds ps (xs ++ ys) zs us v) (more_walk ps xs ts d w)))
 
 -- those of DAT may be none
-a_datum : {h : Heights} {q : State} {us : List LineToken} {ys : List trees.Line} → Valued h lines_of_row q us ys → (o : Option trees.Line) × Valued h line_of_row q us o × (ys ≡ lines_in o)
+a_datum : {h : Heights} {q : LineState} {us : List LineToken} {ys : List trees.Line} → Valued h lines_of_row q us ys → (o : Option trees.Line) × Valued h line_of_row q us o × (ys ≡ lines_in o)
 a_datum {h} {q} {us} {ys} v = go (line_of_row v.row) refl v.is
   where
     go : (o : Option (Option trees.Line)) → line_of_row v.row ≡ o → option_map lines_in o ≡ Some ys → (o : Option trees.Line) × Valued h line_of_row q us o × (ys ≡ lines_in o)
@@ -123,7 +123,7 @@ module _ (ls : List lines.Line) (b : Bool) (t : LineToken) where
   an_item : Taken state.CaseItem t → HasRoom room.Item (innermost t.place.column ls) → Enters ls b t (from state.CaseItem)
   an_item x f = let y = first_inside state.CaseItem t refl x in item (not_chain b (word t) y.not_chain) (not_loop_end b (word t) y.not_loop_end) f
 
-  entering : (q : State) (k : Kind) → IsTrue (begins_line q) → begins_text q && b ≡ false → IsTrue (suits q k) → FitsAs k t.place.column ls → Taken q t → Enters ls b t (from q)
+  entering : (q : LineState) (k : Kind) → IsTrue (begins_line q) → begins_text q && b ≡ false → IsTrue (suits q k) → FitsAs k t.place.column ls → Taken q t → Enters ls b t (from q)
   entering state.Statement (Plain a) h o s f x = a_statement x f
   entering state.Statement (If n e) h o s f x = a_statement x f
   entering state.Statement (Repeat c) h o s f x = a_statement x f
@@ -143,7 +143,7 @@ not_left : (a i : Bool) → IsTrue (if a then i else true) → ¬ (IsTrue a × (
 not_left true i h x = let z = sym h ∙ x.1 in cc
 not_left false i h x = let z = x.0 in cc
 
-pub method_walk : AllKinds → {h : Heights} {ps : List Part} {ts : List LineToken} (m : MethodTree) (ls : List lines.Line) (q : State) (row : List Piece) (t : LineToken) (us : List LineToken) (k : Kind) → IsTrue (begins_line q) → IsLine h q row (t ∷ us) → kind_of_row row ≡ Some k → Fits ls (lines.line t.place k) → Leaves ls (lines.line t.place k) → {c : Bool} → begins_text q && c ≡ false → Walk h (method m ls ∷ ps, c) ts → Walk h (method m (ls ++ lines.line t.place k ∷ []) ∷ ps, is_item k) (ts ++ t ∷ us)
+pub method_walk : AllKinds → {h : Heights} {ps : List Part} {ts : List LineToken} (m : MethodTree) (ls : List lines.Line) (q : LineState) (row : List Piece) (t : LineToken) (us : List LineToken) (k : Kind) → IsTrue (begins_line q) → IsLine h q row (t ∷ us) → kind_of_row row ≡ Some k → Fits ls (lines.line t.place k) → Leaves ls (lines.line t.place k) → {c : Bool} → begins_text q && c ≡ false → Walk h (method m ls ∷ ps, c) ts → Walk h (method m (ls ++ lines.line t.place k ∷ []) ∷ ps, is_item k) (ts ++ t ∷ us)
 method_walk kinds {h} m ls q row t us k b l e f g {c} o w =
     let r = row_of_line h q row (t ∷ us) l in
     let s = suited kinds q row (t ∷ us) k b r e in

@@ -8,8 +8,8 @@ use Rattle.p8_lexer.specs.declared.word.Word.TheVariants as word_case
 use Rattle.p8_columns.specs.Lines as lines
 use Rattle.p8_columns.specs.Lines.{Kind}
 use Rattle.p8_lexer.specs.Pieces.{Piece}
-use Rattle.p8_lines.specs.declared.state.State.{State}
-use Rattle.p8_lines.specs.declared.state.State.TheVariants as state
+use Rattle.p8_lines.specs.declared.state.LineState.{LineState}
+use Rattle.p8_lines.specs.declared.state.LineState.TheVariants as state
 use Rattle.p8_lines.specs.Tokens.{LineToken, word}
 use Rattle.p8_lines.specs.Lines.{Row}
 use Rattle.p8_lines.proofs.Splits.{Compared, same, beyond, short, compare}
@@ -29,16 +29,16 @@ use Rattle.p8_blocks.proofs.Answering.{Same, carried, ends_same}
 -- lines with their values
 
 -- these tokens are a line from this state on, with this value
-pub record Valued (h : Heights) {V : Type 0} (value : List Piece → Option V) (q : State) (ts : List LineToken) (v : V) : Type 0 where
+pub record Valued (h : Heights) {V : Type 0} (value : List Piece → Option V) (q : LineState) (ts : List LineToken) (v : V) : Type 0 where
   pub row : List Piece
   pub line : IsLine h q row ts
   pub is : value row ≡ Some v
 
-pub row_of_line : (h : Heights) (q : State) (row : List Piece) (us : List LineToken) → IsLine h q row us → Row q row us
+pub row_of_line : (h : Heights) (q : LineState) (row : List Piece) (us : List LineToken) → IsLine h q row us → Row q row us
 row_of_line any_height q row us x = x
 row_of_line within_limits q row us x = leads_row x
 
-pub of_any_height : (h : Heights) {V : Type 0} {value : List Piece → Option V} {q : State} {ts : List LineToken} {v : V} → Valued h value q ts v → Valued any_height value q ts v
+pub of_any_height : (h : Heights) {V : Type 0} {value : List Piece → Option V} {q : LineState} {ts : List LineToken} {v : V} → Valued h value q ts v → Valued any_height value q ts v
 of_any_height h {q = q} {ts = ts} x = record { row = x.row; line = row_of_line h q x.row ts x.line; is = x.is }
 
 -- One of two lines over the same tokens isn't longer.
@@ -46,7 +46,7 @@ pub record OneRow (us vs : List LineToken) (row row' : List Piece) : Type 0 wher
   pub tokens : us ≡ vs
   pub pieces : row ≡ row'
 
-pub one_row : {q : State} {us vs : List LineToken} {row row' : List Piece} (rest rest' : List LineToken) → Row q row us → Row q row' vs → us ++ rest ≡ vs ++ rest' → OneRow us vs row row'
+pub one_row : {q : LineState} {us vs : List LineToken} {row row' : List Piece} (rest rest' : List LineToken) → Row q row us → Row q row' vs → us ++ rest ≡ vs ++ rest' → OneRow us vs row row'
 one_row {us = us} {vs = vs} {row = row} {row' = row'} rest rest' x y split = go (compare us rest vs rest' split)
   where
     go : Compared us rest vs rest' → OneRow us vs row row'
@@ -57,7 +57,7 @@ one_row {us = us} {vs = vs} {row = row} {row' = row'} rest rest' x y split = go 
     go (beyond u ws a b) = let z = goes_on (u ∷ ws) (row_way y) (row_way x) a in let f = (at_end z.way refl).tokens in absurd cc
     go (short u ws a b) = let z = goes_on (u ∷ ws) (row_way x) (row_way y) a in let f = (at_end z.way refl).tokens in absurd cc
 
-pub one_value : {V : Type 0} {value : List Piece → Option V} {q : State} {us vs : List LineToken} {a b : V} (rest rest' : List LineToken) → Valued any_height value q us a → Valued any_height value q vs b → us ++ rest ≡ vs ++ rest' → Same a b us vs
+pub one_value : {V : Type 0} {value : List Piece → Option V} {q : LineState} {us vs : List LineToken} {a b : V} (rest rest' : List LineToken) → Valued any_height value q us a → Valued any_height value q vs b → us ++ rest ≡ vs ++ rest' → Same a b us vs
 one_value {value = value} {a = a} {b = b} rest rest' x y split =
     let z = one_row rest rest' x.line y.line split in
     let found : Some a ≡ Some b = sym x.is ∙ ap value z.pieces ∙ y.is in
@@ -92,7 +92,7 @@ pub data Line (h : Heights) : Progress → List LineToken → Progress → Type 
   blank : {ps : List Part} {b : Bool} (t : LineToken) → word t ≡ word_case.LineEnd → Line h (ps, b) (t ∷ []) (ps, false)
   head : {ps : List Part} {b : Bool} {p : Part} {us : List LineToken} (t : LineToken) → IsHead t → OpensAs h (word t) us p → Line h (ps, b) (t ∷ us) (p ∷ ps, false)
   declaration : {ps qs : List Part} {b : Bool} {us : List LineToken} (t : LineToken) → word t ≢ word_case.LineEnd → ¬ IsHead t → Adds h (t ∷ us) ps qs → Line h (ps, b) (t ∷ us) (qs, false)
-  method_line : {m : MethodTree} {ls : List lines.Line} {ps : List Part} {b : Bool} {us : List LineToken} {k : Kind} (t : LineToken) (q : State) → word t ≢ word_case.LineEnd → ¬ IsHead t → Enters ls b t (from q) → ¬ HasNoLoop ls q t → Valued h kind_of_row q (t ∷ us) k → Line h (method m ls ∷ ps, b) (t ∷ us) (method m (ls ++ lines.line t.place k ∷ []) ∷ ps, is_item k)
+  method_line : {m : MethodTree} {ls : List lines.Line} {ps : List Part} {b : Bool} {us : List LineToken} {k : Kind} (t : LineToken) (q : LineState) → word t ≢ word_case.LineEnd → ¬ IsHead t → Enters ls b t (from q) → ¬ HasNoLoop ls q t → Valued h kind_of_row q (t ∷ us) k → Line h (method m ls ∷ ps, b) (t ∷ us) (method m (ls ++ lines.line t.place k ∷ []) ∷ ps, is_item k)
 
 -- They lead from the begin over these tokens so far.
 pub data Walk (h : Heights) : Progress → List LineToken → Type 0 where

@@ -15,8 +15,8 @@ use Rattle.p8_columns.specs.Lines as lines
 use Rattle.p8_columns.specs.Lines.{Kind}
 use Rattle.p8_columns.specs.Blocks.{AreStatements}
 use Rattle.p8_lexer.specs.Pieces.{Piece}
-use Rattle.p8_lines.specs.declared.state.State.{State}
-use Rattle.p8_lines.specs.declared.state.State.TheVariants as state
+use Rattle.p8_lines.specs.declared.state.LineState.{LineState}
+use Rattle.p8_lines.specs.declared.state.LineState.TheVariants as state
 use Rattle.p8_lines.specs.Tokens.{LineToken, word}
 use Rattle.p8_lines.specs.Lines.{Row, Leads, Reads, refused, number_of}
 use Rattle.p8_tree.specs.declared.refusal.Refusal.TheVariants.{BadIndent, TooNested, LoopWord}
@@ -37,7 +37,7 @@ pub data Heights : Type 0 where
   within_limits : Heights
 
 -- these tokens are a line from this state on, with these pieces
-abbrev pub IsLine : Heights → State → List Piece → List LineToken → Type 0
+abbrev pub IsLine : Heights → LineState → List Piece → List LineToken → Type 0
 IsLine any_height q row ts = Row q row ts
 IsLine within_limits q row ts = Leads q ts row state.End
 
@@ -51,7 +51,7 @@ abbrev pub lines_of_row : List Piece → Option (List sources.Line)
 lines_of_row row = option_map lines_in (line_of_row row)
 
 -- The lines of a block that isn't a method, each read from the same state on, with all that they declare.
-pub data Declare (h : Heights) {X : Type 0} (value : List Piece → Option (List X)) (q : State) : List X → List LineToken → Type 0 where
+pub data Declare (h : Heights) {X : Type 0} (value : List Piece → Option (List X)) (q : LineState) : List X → List LineToken → Type 0 where
   no_line : Declare h value q [] []
   a_blank : {xs : List X} {ts : List LineToken} (t : LineToken) → word t ≡ word_case.LineEnd → Declare h value q xs ts → Declare h value q xs (ts ++ t ∷ [])
   a_line : {xs ys : List X} {ts : List LineToken} (us : List LineToken) (row : List Piece) → IsLine h q row us → value row ≡ Some ys →
@@ -64,7 +64,7 @@ is_item lines.Other = true
 is_item k = false
 
 -- a line that goes on with a chain, or ends a loop, is a line of the text
-abbrev pub begins_text : State → Bool
+abbrev pub begins_text : LineState → Bool
 begins_text state.ChainLine = true
 begins_text state.LoopEndLine = true
 begins_text q = false
@@ -75,7 +75,7 @@ pub data AreLines (h : Heights) : List lines.Line → Bool → List LineToken �
   no_line : AreLines h [] false []
   a_blank : {ls : List lines.Line} {b : Bool} {ts : List LineToken} (t : LineToken) → word t ≡ word_case.LineEnd → AreLines h ls b ts →
       AreLines h ls false (ts ++ t ∷ [])
-  a_line : {ls : List lines.Line} {b : Bool} {ts : List LineToken} {k : Kind} (q : State) (row : List Piece) (t : LineToken) (us : List LineToken) →
+  a_line : {ls : List lines.Line} {b : Bool} {ts : List LineToken} {k : Kind} (q : LineState) (row : List Piece) (t : LineToken) (us : List LineToken) →
       IsTrue (begins_line q) → begins_text q && b ≡ false → IsLine h q row (t ∷ us) → kind_of_row row ≡ Some k → AreLines h ls b ts →
       AreLines h (ls ++ lines.line t.place k ∷ []) (is_item k) (ts ++ t ∷ us)
 
@@ -165,7 +165,7 @@ pub record StopsAt (ts : List LineToken) (n : ℕ) (p : Place) : Type 0 where
   pub stops : ¬ Begins (before ++ token ∷ [])
 
 -- After these tokens the lines that begin with this one are those that are read from this state.
-pub record LinesFrom (ts : List LineToken) (t : LineToken) (q : State) : Type 0 where
+pub record LinesFrom (ts : List LineToken) (t : LineToken) (q : LineState) : Type 0 where
   pub may : (row : List Piece) (us : List LineToken) → Row q row (t ∷ us) → (s : Source) × IsFile any_height s (ts ++ t ∷ us)
   pub must : (rest : List LineToken) (s : Source) → IsFile any_height s (ts ++ t ∷ rest) →
       (row : List Piece) × (us : List LineToken) × (vs : List LineToken) × Row q row (t ∷ us) × (us ++ vs ≡ rest)
@@ -193,7 +193,7 @@ pub data LineBegins : List LineToken → LineToken → Place → Type 0 where
 -- what goes past the limits begins at this place
 pub data PassesAt (ts : List LineToken) (p : Place) : Type 0 where
   -- an expression that is too high
-  by_height : (before : List LineToken) (t : LineToken) (us : List LineToken) (q : State) → ts ≡ before ++ t ∷ us → LinesFrom before t q →
+  by_height : (before : List LineToken) (t : LineToken) (us : List LineToken) (q : LineState) → ts ≡ before ++ t ∷ us → LinesFrom before t q →
       Reads q (t ∷ us) (refused (refusal_number TooNested) p) → PassesAt ts p
   -- the line of the text with the token that opens a block too many
   by_depth : (before : List LineToken) (t : LineToken) (us : List LineToken) → ts ≡ before ++ t ∷ us → Begins (before ++ t ∷ []) →

@@ -20,8 +20,8 @@ use Rattle.p8_columns.specs.Lines as lines
 use Rattle.p8_columns.specs.Lines.{Kind, is_repeat, is_plain_repeat}
 use Rattle.p8_columns.specs.Columns.{open_for, innermost, last_up_to, IsAt, HasRoom, HasChain}
 use Rattle.p8_columns.specs.Blocks.{AreStatements}
-use Rattle.p8_lines.specs.declared.state.State.{State}
-use Rattle.p8_lines.specs.declared.state.State.TheVariants as state
+use Rattle.p8_lines.specs.declared.state.LineState.{LineState}
+use Rattle.p8_lines.specs.declared.state.LineState.TheVariants as state
 use Rattle.p8_lines.specs.Tokens.{LineToken, word}
 use Rattle.p8_lines.specs.Lines.{Outcome, read, refused, number_of, Reads}
 use Rattle.p8_declarations.specs.Constants.{constants_of_row}
@@ -66,7 +66,7 @@ abbrev pub IsHead : LineToken → Type 0
 IsHead t = IsTrue (is_block_word (word t)) × (t.place.column ≡ 1)
 
 -- what may follow a block's word on its line
-abbrev pub head_state : Word → State
+abbrev pub head_state : Word → LineState
 head_state word_case.Con = state.ConHead
 head_state word_case.Var = state.VarHead
 head_state word_case.Obj = state.ObjHead
@@ -74,7 +74,7 @@ head_state word_case.Dat = state.DatHead
 head_state _ = state.MethodName
 
 -- a line of a block that isn't a method
-abbrev pub line_state : List Part → State
+abbrev pub line_state : List Part → LineState
 line_state [] = state.ConItem
 line_state (constants xs ∷ ps) = state.ConItem
 line_state (variables xs ∷ ps) = state.VarLine
@@ -101,7 +101,7 @@ ends_loop begun w = not begun && is_loop_end_word w
 
 -- where a line of a method is read from, or the refusal of its first token
 pub data Entry : Type 0 where
-  from : State → Entry
+  from : LineState → Entry
   barred : ℕ → Entry
 
 -- After these lines of a method, a line whose first token is this one is entered so: after the colon of a CASE's item,
@@ -132,7 +132,7 @@ is_opener_word word_case.Case = true
 is_opener_word word_case.Repeat = true
 is_opener_word _ = false
 
-abbrev pub opens : State → Word → Bool
+abbrev pub opens : LineState → Word → Bool
 opens state.Statement w = is_opener_word w
 opens state.CaseItem w = true
 opens q w = false
@@ -142,15 +142,15 @@ abbrev pub greatest_depth : ℕ
 greatest_depth = 64
 
 -- the line would open one block too many
-abbrev pub IsTooDeep : List lines.Line → State → LineToken → Type 0
+abbrev pub IsTooDeep : List lines.Line → LineState → LineToken → Type 0
 IsTooDeep ls q t = IsTrue (opens q (word t)) × (greatest_depth ≤ length (open_for t.place.column ls) + 1)
 
-abbrev pub leaves_loop : State → Word → Bool
+abbrev pub leaves_loop : LineState → Word → Bool
 leaves_loop state.Statement w = is_loop_word w
 leaves_loop q w = false
 
 -- NEXT or QUIT, and no REPEAT is open there
-abbrev pub HasNoLoop : List lines.Line → State → LineToken → Type 0
+abbrev pub HasNoLoop : List lines.Line → LineState → LineToken → Type 0
 HasNoLoop ls q t = IsTrue (leaves_loop q (word t)) × (list_any (λ b. is_repeat b.opener.kind) (open_for t.place.column ls) ≡ false)
 
 -- where the line at hand begins
@@ -194,7 +194,7 @@ pub data Step : Position → List LineToken → Position → List LineToken → 
       Step (at ps b) (t ∷ ts) (at (p ∷ ps) None) rest
   declaration : {ps qs : List Part} {b : Option Place} {t : LineToken} {ts rest : List LineToken} → word t ≢ word_case.LineEnd → ¬ IsHead t →
       Extends (t ∷ ts) ps qs rest → Step (at ps b) (t ∷ ts) (at qs None) rest
-  method_line : {m : MethodTree} {ls : List lines.Line} {ps : List Part} {b : Option Place} {t : LineToken} {ts rest : List LineToken} {q : State}
+  method_line : {m : MethodTree} {ls : List lines.Line} {ps : List Part} {b : Option Place} {t : LineToken} {ts rest : List LineToken} {q : LineState}
       {k : Kind} → word t ≢ word_case.LineEnd → ¬ IsHead t → Enters ls (is_begun b) t (from q) → ¬ HasNoLoop ls q t → ¬ IsTooDeep ls q t →
       ReadsAs kind_of_row q (t ∷ ts) k rest → Step (at (method m ls ∷ ps) b) (t ∷ ts)
       (at (method m (ls ++ lines.line t.place k ∷ []) ∷ ps) (begun_by k b t)) rest
@@ -216,14 +216,14 @@ pub data Fails : Position → List LineToken → ℕ → Place → Type 0 where
       ¬ IsHead t → IsTrue (declares ps) → Reads (line_state ps) (t ∷ ts) (refused n p) → Fails (at ps b) (t ∷ ts) n p
   entry_fails : {m : MethodTree} {ls : List lines.Line} {ps : List Part} {b : Option Place} {t : LineToken} {ts : List LineToken} {n : ℕ} →
       word t ≢ word_case.LineEnd → ¬ IsHead t → Enters ls (is_begun b) t (barred n) → Fails (at (method m ls ∷ ps) b) (t ∷ ts) n t.place
-  no_loop_fails : {m : MethodTree} {ls : List lines.Line} {ps : List Part} {b : Option Place} {t : LineToken} {ts : List LineToken} {q : State} →
+  no_loop_fails : {m : MethodTree} {ls : List lines.Line} {ps : List Part} {b : Option Place} {t : LineToken} {ts : List LineToken} {q : LineState} →
       word t ≢ word_case.LineEnd → ¬ IsHead t → Enters ls (is_begun b) t (from q) → HasNoLoop ls q t →
       Fails (at (method m ls ∷ ps) b) (t ∷ ts) (refusal_number LoopWord) t.place
   -- one block too many is told where the line of the text begins, unless the first token begins no line there
-  too_deep_fails : {m : MethodTree} {ls : List lines.Line} {ps : List Part} {b : Option Place} {t : LineToken} {ts : List LineToken} {q : State}
+  too_deep_fails : {m : MethodTree} {ls : List lines.Line} {ps : List Part} {b : Option Place} {t : LineToken} {ts : List LineToken} {q : LineState}
       {o : Outcome} → word t ≢ word_case.LineEnd → ¬ IsHead t → Enters ls (is_begun b) t (from q) → IsTooDeep ls q t → Reads q (t ∷ ts) o →
       ¬ IsRefusedAt t.place o → Fails (at (method m ls ∷ ps) b) (t ∷ ts) (refusal_number TooNested) (begin b t)
-  line_fails : {m : MethodTree} {ls : List lines.Line} {ps : List Part} {b : Option Place} {t : LineToken} {ts : List LineToken} {q : State} {n : ℕ}
+  line_fails : {m : MethodTree} {ls : List lines.Line} {ps : List Part} {b : Option Place} {t : LineToken} {ts : List LineToken} {q : LineState} {n : ℕ}
       {p : Place} → word t ≢ word_case.LineEnd → ¬ IsHead t → Enters ls (is_begun b) t (from q) → ¬ HasNoLoop ls q t →
       (IsTooDeep ls q t → p ≡ t.place) → Reads q (t ∷ ts) (refused n p) → Fails (at (method m ls ∷ ps) b) (t ∷ ts) n p
 

@@ -22,8 +22,8 @@ use Rattle.p8_columns.specs.Lines.{is_repeat, is_plain_repeat}
 use Rattle.p8_columns.specs.Columns.{open_for, innermost, last_up_to, IsAt, HasRoom, HasChain}
 use Rattle.p8_columns.specs.Blocks.{AreStatements}
 use Rattle.p8_lexer.specs.Pieces.{Piece}
-use Rattle.p8_lines.specs.declared.state.State.{State}
-use Rattle.p8_lines.specs.declared.state.State.TheVariants as state
+use Rattle.p8_lines.specs.declared.state.LineState.{LineState}
+use Rattle.p8_lines.specs.declared.state.LineState.TheVariants as state
 use Rattle.p8_lines.specs.Tokens.{LineToken, word}
 use Rattle.p8_lines.specs.Lines.{Reads, refused, number_of}
 use Rattle.p8_declarations.specs.Methods.{method_of_row}
@@ -110,32 +110,32 @@ line_begin before t = unwrap_or (begun_from None before) t.place
 
 -- what a line of the last block is read from, unless that is a method
 
-abbrev pub block_state : BlockTree → Option State
+abbrev pub block_state : BlockTree → Option LineState
 block_state (sources.Con xs) = Some state.ConItem
 block_state (sources.Var xs) = Some state.VarLine
 block_state (sources.Obj xs) = Some state.ObjLine
 block_state (sources.Dat xs) = Some state.DatLine
 block_state (sources.Method m) = None
 
-abbrev pub last_state : Source → Option State
+abbrev pub last_state : Source → Option LineState
 last_state [] = Some state.ConItem
 last_state (b ∷ []) = block_state b
 last_state (b ∷ c ∷ bs) = last_state (c ∷ bs)
 
 -- After these tokens a line begins with this one, or what stands after a block's word, and is read from this state.
-pub data BeginsLine : List LineToken → LineToken → State → Type 0 where
+pub data BeginsLine : List LineToken → LineToken → LineState → Type 0 where
   behind_word : {s : Source} {ts : List LineToken} {t : LineToken} (u : LineToken) → IsFile any_height s ts → BeginsBlock u →
       BeginsLine (ts ++ u ∷ []) t (head_state (word u))
-  declaration : {s : Source} {ts : List LineToken} {t : LineToken} {q : State} → IsFile any_height s ts → last_state s ≡ Some q →
+  declaration : {s : Source} {ts : List LineToken} {t : LineToken} {q : LineState} → IsFile any_height s ts → last_state s ≡ Some q →
       word t ≢ word_case.LineEnd → ¬ BeginsBlock t → BeginsLine ts t q
-  method_line : {ls : List lines.Line} {b : Bool} {ts : List LineToken} {t : LineToken} {q : State} → EndsInMethod ts ls b →
+  method_line : {ls : List lines.Line} {b : Bool} {ts : List LineToken} {t : LineToken} {q : LineState} → EndsInMethod ts ls b →
       word t ≢ word_case.LineEnd → ¬ BeginsBlock t → Enters ls b t (from q) → BeginsLine ts t q
 
 -- The line of a method that begins with this token opens a block too many.
 pub record OpensTooMany (before : List LineToken) (t : LineToken) : Type 0 where
   pub lines : List lines.Line
   pub begun : Bool
-  pub state : State
+  pub state : LineState
   pub method : EndsInMethod before lines begun
   pub not_end : word t ≢ word_case.LineEnd
   pub no_head : ¬ BeginsBlock t
@@ -146,7 +146,7 @@ pub record OpensTooMany (before : List LineToken) (t : LineToken) : Type 0 where
 -- refused, at the expression's first token or, in an action, at the line's.
 pub data NestedAt (before : List LineToken) (t : LineToken) (after : List LineToken) : Place → Type 0 where
   by_depth : OpensTooMany before t → NestedAt before t after (line_begin before t)
-  by_height : {p : Place} (ts : List LineToken) (u : LineToken) (us vs : List LineToken) (q : State) → before ≡ ts ++ us → us ++ t ∷ after ≡ u ∷ vs →
+  by_height : {p : Place} (ts : List LineToken) (u : LineToken) (us vs : List LineToken) (q : LineState) → before ≡ ts ++ us → us ++ t ∷ after ≡ u ∷ vs →
       ¬ OpensTooMany before t → BeginsLine ts u q → Reads q (u ∷ vs) (refused (refusal_number TooNested) p) → NestedAt before t after p
 
 -- The line that begins with this token in a method is refused with this number at the token's own place: at the last token
@@ -154,7 +154,7 @@ pub data NestedAt (before : List LineToken) (t : LineToken) (after : List LineTo
 pub record IsRefusedThere (before : List LineToken) (t : LineToken) (after : List LineToken) (n : ℕ) : Type 0 where
   pub lines : List lines.Line
   pub begun : Bool
-  pub state : State
+  pub state : LineState
   pub method : EndsInMethod before lines begun
   pub enters : Enters lines begun t (from state)
   pub reads : Reads state (t ∷ after) (refused n t.place)

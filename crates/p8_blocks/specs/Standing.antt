@@ -9,14 +9,14 @@ use Rattle.p8_tree.specs.declared.refusal.Refusal.TheVariants.{TooNested}
 use Rattle.p8_tree.specs.Refusals.{refusal_number}
 use Rattle.p8_columns.specs.Lines as lines
 use Rattle.p8_columns.specs.Taken.{HasTaken}
-use Rattle.p8_lines.specs.declared.state.State.{State}
+use Rattle.p8_lines.specs.declared.state.LineState.{LineState}
 use Rattle.p8_lines.specs.Tokens.{LineToken, word}
 use Rattle.p8_lines.specs.Lines.{Outcome, refused, Reads}
 use Rattle.p8_blocks.specs.Values.{begins_line}
 use Rattle.p8_blocks.specs.Reading.{Part, constants, variables, objects, assembly, method, Position, at, AreBlocks, Entry, from, barred, Enters}
 use Rattle.p8_blocks.specs.Reading.{HasNoLoop, IsTooDeep, IsHead, is_block_word, is_begun, begin, Opens, Extends, Step, Goes, start, IsRefusedAt}
-use Rattle.p8_blocks.specs.declared.words.Head as head
-use Rattle.p8_blocks.specs.declared.words.Head.TheVariants as head_case
+use Rattle.p8_blocks.specs.declared.words.BlockWord as head
+use Rattle.p8_blocks.specs.declared.words.BlockWord.TheVariants as head_case
 use Rattle.p8_blocks.specs.declared.first.First.{First}
 use Rattle.p8_blocks.specs.declared.entry.Entry as entry
 use Rattle.p8_blocks.specs.declared.entry.Entry.TheVariants as entry_case
@@ -44,7 +44,7 @@ pub record StandsFor (x : Position) (file : Growing) : Type 0 where
   pub begun : x.begun ≡ file.begun
 
 -- the words that begin blocks
-abbrev pub word_of_head : head.Head → Word
+abbrev pub word_of_head : head.BlockWord → Word
 word_of_head head_case.Con = word_case.Con
 word_of_head head_case.Var = word_case.Var
 word_of_head head_case.Obj = word_case.Obj
@@ -52,7 +52,7 @@ word_of_head head_case.Pub = word_case.Pub
 word_of_head head_case.Pri = word_case.Pri
 word_of_head head_case.Dat = word_case.Dat
 
-abbrev pub head_of : Word → Option head.Head
+abbrev pub head_of : Word → Option head.BlockWord
 head_of word_case.Con = Some head_case.Con
 head_of word_case.Var = Some head_case.Var
 head_of word_case.Obj = Some head_case.Obj
@@ -101,13 +101,13 @@ begins_entry (from q) = begins_line q
 begins_entry (barred n) = true
 
 -- a line of a method may be read so
-pub record MayRead (ls : List lines.Line) (b : Bool) (t : LineToken) (q : State) : Type 0 where
+pub record MayRead (ls : List lines.Line) (b : Bool) (t : LineToken) (q : LineState) : Type 0 where
   pub enters : Enters ls b t (from q)
   pub loops : ¬ HasNoLoop ls q t
   pub shallow : ¬ IsTooDeep ls q t
 
 -- the refusal of a line that is too deep: its first token stands at the first place, and it begins at the other
-pub data TellsTooDeep (q : State) (ts : List LineToken) (first begin : Place) : ℕ → Place → Type 0 where
+pub data TellsTooDeep (q : LineState) (ts : List LineToken) (first begin : Place) : ℕ → Place → Type 0 where
   too_deep : {o : Outcome} → Reads q ts o → ¬ IsRefusedAt first o → TellsTooDeep q ts first begin (refusal_number TooNested) begin
   refused_there : {n : ℕ} (p : Place) → p ≡ first → Reads q ts (refused n p) → TellsTooDeep q ts first begin n p
 

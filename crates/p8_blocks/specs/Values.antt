@@ -2,23 +2,23 @@
 use Rattle.std.specs.Prelude.{◌≡◌, Bool, true, false, IsTrue, List, Option, Some}
 use Rattle.p8_lexer.specs.Pieces.{Piece}
 use Rattle.p8_columns.specs.Lines.{Kind, Plain, If, ElseIf, Else, Repeat, End, Case, Item, Other}
-use Rattle.p8_lines.specs.declared.state.State.{State}
-use Rattle.p8_lines.specs.declared.state.State.TheVariants as state
+use Rattle.p8_lines.specs.declared.state.LineState.{LineState}
+use Rattle.p8_lines.specs.declared.state.LineState.TheVariants as state
 use Rattle.p8_lines.specs.Tokens.{LineToken}
 use Rattle.p8_lines.specs.Lines.{read, Reads, Row}
 
 -- Reading these tokens from a state on gives a line with this value, and these tokens after it.
-pub record ReadsAs {V : Type 0} (value : List Piece → Option V) (q : State) (ts : List LineToken) (v : V) (rest : List LineToken) : Type 0 where
+pub record ReadsAs {V : Type 0} (value : List Piece → Option V) (q : LineState) (ts : List LineToken) (v : V) (rest : List LineToken) : Type 0 where
   pub row : List Piece
   pub reads : Reads q ts (read row rest)
   pub is : value row ≡ Some v
 
 -- each line from this state on has a value
-abbrev pub HaveValues : {V : Type 0} → (List Piece → Option V) → State → Type 0
+abbrev pub HaveValues : {V : Type 0} → (List Piece → Option V) → LineState → Type 0
 HaveValues {V} value q = (row : List Piece) (ts : List LineToken) → Row q row ts → (v : V) × (value row ≡ Some v)
 
 -- which lines of a method a state is the beginning of
-abbrev pub suits : State → Kind → Bool
+abbrev pub suits : LineState → Kind → Bool
 suits state.ChainLine (ElseIf negated test) = true
 suits state.ChainLine Else = true
 suits state.LoopEndLine (End until test) = true
@@ -31,11 +31,11 @@ suits state.Statement (Case value) = true
 suits q k = false
 
 -- each line of a method from this state on has a value of its kind
-abbrev pub HaveKinds : (List Piece → Option Kind) → State → Type 0
+abbrev pub HaveKinds : (List Piece → Option Kind) → LineState → Type 0
 HaveKinds value q = (row : List Piece) (ts : List LineToken) → Row q row ts → (k : Kind) × (value row ≡ Some k) × IsTrue (suits q k)
 
 -- the states from which lines of a method are read
-abbrev pub begins_line : State → Bool
+abbrev pub begins_line : LineState → Bool
 begins_line state.Statement = true
 begins_line state.ChainLine = true
 begins_line state.LoopEndLine = true

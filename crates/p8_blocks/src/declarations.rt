@@ -2,7 +2,7 @@
 ghost use Rattle.std.specs.Prelude.{◌≡◌, ◌⊎◌, ◌<◌, ◌≤◌, ◌+◌, IfOk, IfErr, length, map, option_map};
 ghost use Rattle.p8_tree.specs.Views.{child_of, constant_of, declared_of, line_of, method_of};
 ghost use Rattle.p8_tree.specs.Faults.{IfRefused};
-ghost use Rattle.p8_lines.specs.declared.state.State.TheVariants as state_case;
+ghost use Rattle.p8_lines.specs.declared.state.LineState.TheVariants as state_case;
 ghost use Rattle.p8_lines.specs.Tokens.{tokens_from};
 ghost use Rattle.p8_lines.specs.Lines.{refused, Reads};
 ghost use Rattle.p8_declarations.specs.Constants.{constants_of_row};
@@ -14,7 +14,7 @@ ghost use Rattle.p8_blocks.specs.Values.{ReadsAs};
 
 use p8_declarations::{DatRow, constants, dat_line, method, object, variables};
 use p8_lexer::Tokens;
-use p8_lines::{State, read_line};
+use p8_lines::{LineState, read_line};
 use p8_tree::{ConItem, DatLine, Fault, List, Method, ObjItem, VarItem};
 use p8_words::Fail;
 use std::alloc::Global;
@@ -26,7 +26,7 @@ pub fn read_constants(
     bytes: &[u8],
     tokens: &Tokens,
     at: usize,
-    state: State,
+    state: LineState,
 ) -> Result<(List<ConItem>, usize), Fail<Fault>>
     requires within { at ≤ length tokens.now }
     requires begins { (state ≡ state_case.ConHead) ⊎ (state ≡ state_case.ConItem) }
@@ -46,7 +46,7 @@ pub fn read_variables(
     bytes: &[u8],
     tokens: &Tokens,
     at: usize,
-    state: State,
+    state: LineState,
 ) -> Result<(List<VarItem>, usize), Fail<Fault>>
     requires within { at ≤ length tokens.now }
     requires begins { (state ≡ state_case.VarHead) ⊎ (state ≡ state_case.VarLine) }
@@ -66,7 +66,7 @@ pub fn read_objects(
     bytes: &[u8],
     tokens: &Tokens,
     at: usize,
-    state: State,
+    state: LineState,
 ) -> Result<(List<ObjItem>, usize), Fail<Fault>>
     requires within { at ≤ length tokens.now }
     requires begins { (state ≡ state_case.ObjHead) ⊎ (state ≡ state_case.ObjLine) }
@@ -95,7 +95,7 @@ pub fn read_method(
         (tokens_from bytes.now tokens.now r.1)) }
     ensures refused { IfErr result (IfRefused (λ fault. Reads state_case.MethodName (tokens_from bytes.now tokens.now at) (refused fault.number fault.place))) }
 {
-    let (pieces, end) = read_line(alloc, bytes, tokens, at, State::MethodName)?;
+    let (pieces, end) = read_line(alloc, bytes, tokens, at, LineState::MethodName)?;
     let head = method(alloc, public, pieces)?.unwrap();
     Ok((head, end))
 }
@@ -108,7 +108,7 @@ pub fn read_data(
     bytes: &[u8],
     tokens: &Tokens,
     at: usize,
-    state: State,
+    state: LineState,
 ) -> Result<(Option<DatLine>, usize), Fail<Fault>>
     requires within { at ≤ length tokens.now }
     requires begins { (state ≡ state_case.DatHead) ⊎ (state ≡ state_case.DatLine) }

@@ -9,7 +9,7 @@ ghost use Rattle.p8_lines.specs.Tokens.{LineToken, tokens_from, word};
 ghost use Rattle.p8_tree.specs.declared.refusal.Refusal.TheVariants.{TooNested};
 ghost use Rattle.p8_tree.specs.Refusals.{refusal_number};
 ghost use Rattle.p8_tree.specs.Faults.{IfRefused};
-ghost use Rattle.p8_lines.specs.declared.state.State as line_state;
+ghost use Rattle.p8_lines.specs.declared.state.LineState as line_state;
 ghost use Rattle.p8_lines.specs.Lines.{number_of, refused, Reads};
 ghost use Rattle.p8_blocks.specs.Values.{begins_line};
 ghost use Rattle.p8_blocks.specs.Reading.{Part, method, at as position, from, Enters, HasNoLoop, IsTooDeep, Fails, goes_on_chain, ends_loop};
@@ -22,7 +22,7 @@ use p8_columns::{Blocks, Chain, Room};
 use p8_expr::refusal_of;
 use p8_grammar::Setting;
 use p8_lexer::{Tokens, Word};
-use p8_lines::State;
+use p8_lines::LineState;
 use p8_tree::{Fault, Place, Refusal};
 use p8_words::Fail;
 use std::alloc::Global;
@@ -33,7 +33,7 @@ pub const GREATEST_DEPTH: usize = 64;
 /// Where a line of a method is read from, or the refusal of its first token.
 #[derive(Clone, Copy)]
 pub enum Entry {
-    From(State),
+    From(LineState),
     Barred(Refusal),
 }
 
@@ -52,7 +52,7 @@ fn chain_entry(blocks: &Blocks, first: First) -> Entry
         Enters ls first.begun t (entry_of result) }
 {
     match blocks.chain(first.place.column) {
-        Chain::Begun => Entry::From(State::ChainLine),
+        Chain::Begun => Entry::From(LineState::ChainLine),
         Chain::Ended => Entry::Barred(refusal_of_word(first.word)),
         Chain::Missing => Entry::Barred(Refusal::BadIndent),
     }
@@ -66,7 +66,7 @@ fn loop_end_entry(blocks: &Blocks, first: First) -> Entry
         Enters ls first.begun t (entry_of result) }
 {
     if blocks.is_plain_loop(first.place.column) {
-        Entry::From(State::LoopEndLine)
+        Entry::From(LineState::LoopEndLine)
     } else {
         Entry::Barred(Refusal::BadIndent)
     }
@@ -82,8 +82,8 @@ fn room_entry(blocks: &Blocks, first: First) -> Entry
         Enters ls first.begun t (entry_of result) }
 {
     match blocks.room(first.place.column) {
-        Room::Statement => Entry::From(State::Statement),
-        Room::Item => Entry::From(State::CaseItem),
+        Room::Statement => Entry::From(LineState::Statement),
+        Room::Item => Entry::From(LineState::CaseItem),
         Room::Nothing => Entry::Barred(refusal_of_word(first.word)),
     }
 }
@@ -104,7 +104,7 @@ pub fn entry_at(blocks: &Blocks, first: First) -> Entry
 }
 
 // Whether the line is `NEXT` or `QUIT`, and no `REPEAT` is open there.
-fn has_no_loop(blocks: &Blocks, first: First, state: State) -> bool
+fn has_no_loop(blocks: &Blocks, first: First, state: LineState) -> bool
     ensures { (ls : List lines.Line) (t : LineToken) → HasTaken ls blocks.now → word t ≡ first.word → t.place ≡ first.place →
         IsTrue result ↔ HasNoLoop ls state t }
 {
@@ -112,7 +112,7 @@ fn has_no_loop(blocks: &Blocks, first: First, state: State) -> bool
 }
 
 // Whether the line would open one block too many.
-fn is_too_deep(blocks: &Blocks, first: First, state: State) -> bool
+fn is_too_deep(blocks: &Blocks, first: First, state: LineState) -> bool
     ensures { (ls : List lines.Line) (t : LineToken) → HasTaken ls blocks.now → word t ≡ first.word → t.place ≡ first.place →
         IsTrue result ↔ IsTooDeep ls state t }
 {
@@ -136,7 +136,7 @@ fn is_same(one: Place, other: Place) -> bool
 // The refusal of a line that is too deep and is refused itself: its own, if that stands at its first
 // token.
 fn first_refusal(fail: Fail<Fault>, first: First) -> Fail<Fault>
-    ensures { (q : line_state.State) (ts : List LineToken) → IfRefused (λ f. Reads q ts (refused f.number f.place)) fail →
+    ensures { (q : line_state.LineState) (ts : List LineToken) → IfRefused (λ f. Reads q ts (refused f.number f.place)) fail →
         IfRefused (λ f. TellsTooDeep q ts first.place first.begin f.number f.place) result }
 {
     match fail {
@@ -158,7 +158,7 @@ fn too_deep(
     tokens: &Tokens,
     at: usize,
     first: First,
-    state: State,
+    state: LineState,
 ) -> Fail<Fault>
     requires within { at < length tokens.now }
     requires begins { IsTrue (begins_line state) }
@@ -181,8 +181,8 @@ fn within_depth(
     at: usize,
     first: First,
     blocks: &Blocks,
-    state: State,
-) -> Result<State, Fail<Fault>>
+    state: LineState,
+) -> Result<LineState, Fail<Fault>>
     requires within { at < length tokens.now }
     requires begins { IsTrue (begins_line state) }
     ensures same { IfOk result (λ q. q ≡ state) }
@@ -211,7 +211,7 @@ pub fn state_of_line(
     at: usize,
     first: First,
     blocks: &Blocks,
-) -> Result<State, Fail<Fault>>
+) -> Result<LineState, Fail<Fault>>
     requires { at < length tokens.now }
     ensures begins { IfOk result (λ q. IsTrue (begins_line q)) }
     ensures read { (ls : List lines.Line) (t : LineToken) → HasTaken ls blocks.now → word t ≡ first.word → t.place ≡ first.place →

@@ -5,7 +5,7 @@ ghost use Rattle.p8_lines.specs.Tokens.{tokens_from};
 ghost use Rattle.p8_blocks.specs.Reading.{is_begun};
 ghost use Rattle.p8_blocks.specs.Standing.{IsHeadAt, Starts, word_of_head};
 
-use crate::words::{Head, head_of};
+use crate::words::{BlockWord, head_of};
 use p8_lexer::{Token, Tokens, Word, word_of};
 use p8_tree::Place;
 
@@ -62,7 +62,7 @@ impl First {
     }
 
     /// The block that the line begins.
-    pub fn head(self) -> Option<Head>
+    pub fn head(self) -> Option<BlockWord>
         ensures { MatchOption result (¬ IsHeadAt self.word self.place) (λ h. (self.word ≡ word_of_head h) × (self.place.column ≡ 1)) }
     {
         if self.place.column == 1 {

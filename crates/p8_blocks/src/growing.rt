@@ -10,7 +10,7 @@ ghost use Rattle.p8_blocks.specs.Standing.{Continues, IsHeadAt, IsOpen, StandsFo
 
 use crate::first::First;
 use crate::lines::{Extended, first_constants, read_head};
-use crate::words::Head;
+use crate::words::BlockWord;
 use p8_columns::Blocks;
 use p8_lexer::Tokens;
 use p8_tree::{
@@ -147,7 +147,7 @@ impl Growing {
         tokens: &Tokens,
         at: usize,
         first: First,
-        head: Head,
+        head: BlockWord,
     ) -> Result<usize, Fail<Fault>>
         requires within { at < length tokens.now }
         requires starts { Starts (tokens_from bytes.now tokens.now at) (tokens_from bytes.now tokens.now (at + 1)) self.old.begun first }

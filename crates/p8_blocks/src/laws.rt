@@ -9,7 +9,7 @@ ghost use Rattle.p8_tree.specs.declared.refusal.Refusal.TheVariants.{TooNested};
 ghost use Rattle.p8_tree.specs.Refusals.{refusal_number};
 ghost use Rattle.p8_lexer.specs.declared.token.Token as lexer_token;
 ghost use Rattle.p8_lexer.specs.Lexing.{AreTokens};
-ghost use Rattle.p8_lines.specs.declared.state.State.{State};
+ghost use Rattle.p8_lines.specs.declared.state.LineState.{LineState};
 ghost use Rattle.p8_lines.specs.Tokens.{LineToken, terms, all_tokens};
 ghost use Rattle.p8_statements.specs.Statements.{kind_of_row};
 ghost use Rattle.p8_blocks.specs.Values.{HaveKinds, begins_line};
@@ -19,7 +19,7 @@ ghost use Rattle.p8_blocks.specs.Refusals.{IsRefused};
 
 /// Each line of a method has a kind that suits the state from which it is read.
 fn lines_have_kinds()
-    ensures { (q : State) → IsTrue (begins_line q) → HaveKinds kind_of_row q }
+    ensures { (q : LineState) → IsTrue (begins_line q) → HaveKinds kind_of_row q }
 {
     crate::row_laws::statements_have_kinds();
     crate::row_laws::chain_lines_have_kinds();

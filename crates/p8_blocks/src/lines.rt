@@ -6,7 +6,7 @@ ghost use Rattle.p8_tree.specs.Faults.{IfRefused};
 ghost use Rattle.p8_columns.specs.Lines as lines;
 ghost use Rattle.p8_columns.specs.Views.{kind_of};
 ghost use Rattle.p8_columns.specs.Taken.{HasTaken};
-ghost use Rattle.p8_lines.specs.declared.state.State.TheVariants as state_case;
+ghost use Rattle.p8_lines.specs.declared.state.LineState.TheVariants as state_case;
 ghost use Rattle.p8_lines.specs.Tokens.{LineToken, tokens_from, word};
 ghost use Rattle.p8_lines.specs.Lines.{refused, Reads};
 ghost use Rattle.p8_blocks.specs.Reading.{Part, constants, variables, objects, assembly, method as method_part, at as position, Fails, head_state};
@@ -18,10 +18,10 @@ use crate::entry::state_of_line;
 use crate::first::First;
 use crate::growing::Open;
 use crate::statements::read_statement;
-use crate::words::Head;
+use crate::words::BlockWord;
 use p8_columns::{Blocks, Line, LineKind};
 use p8_lexer::Tokens;
-use p8_lines::State;
+use p8_lines::LineState;
 use p8_tree::{ConItem, DatLine, Fault, List, Method, ObjItem, Place, VarItem};
 use p8_words::Fail;
 use std::alloc::{AllocError, Global};
@@ -86,7 +86,7 @@ pub fn read_head(
     bytes: &[u8],
     tokens: &Tokens,
     at: usize,
-    head: Head,
+    head: BlockWord,
 ) -> Result<(Open, usize), Fail<Fault>>
     requires { at ≤ length tokens.now }
     ensures within { IfOk result (λ r. (at < r.1) × (r.1 ≤ length tokens.now + 1)) }
@@ -95,28 +95,28 @@ pub fn read_head(
     ensures refused { IfErr result (IfRefused (λ f. Reads (head_state (word_of_head head)) (tokens_from bytes.now tokens.now at) (refused f.number f.place))) }
 {
     match head {
-        Head::Con => {
-            let (items, end) = read_constants(alloc, bytes, tokens, at, State::ConHead)?;
+        BlockWord::Con => {
+            let (items, end) = read_constants(alloc, bytes, tokens, at, LineState::ConHead)?;
             Ok((Open::Constants(items), end))
         }
-        Head::Var => {
-            let (items, end) = read_variables(alloc, bytes, tokens, at, State::VarHead)?;
+        BlockWord::Var => {
+            let (items, end) = read_variables(alloc, bytes, tokens, at, LineState::VarHead)?;
             Ok((Open::Variables(items), end))
         }
-        Head::Obj => {
-            let (items, end) = read_objects(alloc, bytes, tokens, at, State::ObjHead)?;
+        BlockWord::Obj => {
+            let (items, end) = read_objects(alloc, bytes, tokens, at, LineState::ObjHead)?;
             Ok((Open::Objects(items), end))
         }
-        Head::Pub => {
+        BlockWord::Pub => {
             let (method, end) = read_method(alloc, bytes, tokens, at, true)?;
             Ok((Open::Method(method, Blocks::new(alloc)), end))
         }
-        Head::Pri => {
+        BlockWord::Pri => {
             let (method, end) = read_method(alloc, bytes, tokens, at, false)?;
             Ok((Open::Method(method, Blocks::new(alloc)), end))
         }
-        Head::Dat => {
-            let (line, end) = read_data(alloc, bytes, tokens, at, State::DatHead)?;
+        BlockWord::Dat => {
+            let (line, end) = read_data(alloc, bytes, tokens, at, LineState::DatHead)?;
             Ok((Open::Data(lines_in(alloc, line)?), end))
         }
     }
@@ -134,7 +134,7 @@ pub fn first_constants(
     ensures read { IfOk result (λ r. Added [] [] (tokens_from bytes.now tokens.now at) r (tokens_from bytes.now tokens.now r.end)) }
     ensures refused { IfErr result (IfRefused (λ f. Reads state_case.ConItem (tokens_from bytes.now tokens.now at) (refused f.number f.place))) }
 {
-    let (items, end) = read_constants(alloc, bytes, tokens, at, State::ConItem)?;
+    let (items, end) = read_constants(alloc, bytes, tokens, at, LineState::ConItem)?;
     Ok(Extended::new(Open::Constants(items), end))
 }
 
@@ -152,7 +152,7 @@ fn more_constants(
         (tokens_from bytes.now tokens.now r.end)) }
     ensures refused { IfErr result (IfRefused (λ f. Reads state_case.ConItem (tokens_from bytes.now tokens.now at) (refused f.number f.place))) }
 {
-    let (more, end) = read_constants(alloc, bytes, tokens, at, State::ConItem)?;
+    let (more, end) = read_constants(alloc, bytes, tokens, at, LineState::ConItem)?;
     Ok(Extended::new(Open::Constants(appended(items, more)?), end))
 }
 
@@ -170,7 +170,7 @@ fn more_variables(
         (tokens_from bytes.now tokens.now r.end)) }
     ensures refused { IfErr result (IfRefused (λ f. Reads state_case.VarLine (tokens_from bytes.now tokens.now at) (refused f.number f.place))) }
 {
-    let (more, end) = read_variables(alloc, bytes, tokens, at, State::VarLine)?;
+    let (more, end) = read_variables(alloc, bytes, tokens, at, LineState::VarLine)?;
     Ok(Extended::new(Open::Variables(appended(items, more)?), end))
 }
 
@@ -188,7 +188,7 @@ fn more_objects(
         (tokens_from bytes.now tokens.now r.end)) }
     ensures refused { IfErr result (IfRefused (λ f. Reads state_case.ObjLine (tokens_from bytes.now tokens.now at) (refused f.number f.place))) }
 {
-    let (more, end) = read_objects(alloc, bytes, tokens, at, State::ObjLine)?;
+    let (more, end) = read_objects(alloc, bytes, tokens, at, LineState::ObjLine)?;
     Ok(Extended::new(Open::Objects(appended(items, more)?), end))
 }
 
@@ -206,7 +206,7 @@ fn more_data(
         (tokens_from bytes.now tokens.now r.end)) }
     ensures refused { IfErr result (IfRefused (λ f. Reads state_case.DatLine (tokens_from bytes.now tokens.now at) (refused f.number f.place))) }
 {
-    let (line, end) = read_data(alloc, bytes, tokens, at, State::DatLine)?;
+    let (line, end) = read_data(alloc, bytes, tokens, at, LineState::DatLine)?;
     let more = lines_in(alloc, line)?;
     Ok(Extended::new(Open::Data(appended(lines, more)?), end))
 }

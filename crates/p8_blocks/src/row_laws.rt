@@ -1,7 +1,7 @@
 // What the calls of this crate rest on: each line has a value.
 ghost use Rattle.std.specs.Prelude.{◌≢◌, Bool, IsTrue};
-ghost use Rattle.p8_lines.specs.declared.state.State as line_state;
-ghost use Rattle.p8_lines.specs.declared.state.State.TheVariants as state_case;
+ghost use Rattle.p8_lines.specs.declared.state.LineState as line_state;
+ghost use Rattle.p8_lines.specs.declared.state.LineState.TheVariants as state_case;
 ghost use Rattle.p8_declarations.specs.Constants.{constants_of_row};
 ghost use Rattle.p8_declarations.specs.Variables.{variables_of_row};
 ghost use Rattle.p8_declarations.specs.Objects.{objects_of_row};
@@ -47,8 +47,8 @@ pub fn data_have_values()
 /// The pieces of a line are proper, where its tokens are, and a line of a method that is an action is
 /// a proper one: an action stands at the beginning of a statement alone.
 pub fn rows_are_proper()
-    ensures pieces { (q : line_state.State) → q ≢ state_case.Statement → RowsAreProper q (is_in_dat q) }
-    ensures actions { (q : line_state.State) → IsTrue (begins_line q) → MethodRowsAreProper q }
+    ensures pieces { (q : line_state.LineState) → q ≢ state_case.Statement → RowsAreProper q (is_in_dat q) }
+    ensures actions { (q : line_state.LineState) → IsTrue (begins_line q) → MethodRowsAreProper q }
 {
     p8_grammar::spelled_is_proper();
 }

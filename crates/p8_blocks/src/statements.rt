@@ -2,7 +2,7 @@
 ghost use Rattle.std.specs.Prelude.{◌≡◌, ◌⊎◌, ◌<◌, ◌≤◌, ◌+◌, IfOk, IfErr, IsTrue, length};
 ghost use Rattle.p8_tree.specs.Faults.{IfRefused};
 ghost use Rattle.p8_columns.specs.Views.{kind_of};
-ghost use Rattle.p8_lines.specs.declared.state.State.TheVariants as state_case;
+ghost use Rattle.p8_lines.specs.declared.state.LineState.TheVariants as state_case;
 ghost use Rattle.p8_lines.specs.Tokens.{tokens_from};
 ghost use Rattle.p8_lines.specs.Lines.{refused, Reads};
 ghost use Rattle.p8_statements.specs.Statements.{kind_of_row};
@@ -10,7 +10,7 @@ ghost use Rattle.p8_blocks.specs.Values.{ReadsAs, suits, begins_line};
 
 use p8_columns::LineKind;
 use p8_lexer::Tokens;
-use p8_lines::{State, read_line};
+use p8_lines::{LineState, read_line};
 use p8_statements::line_kind;
 use p8_tree::Fault;
 use p8_words::Fail;
@@ -24,7 +24,7 @@ pub fn read_statement(
     bytes: &[u8],
     tokens: &Tokens,
     at: usize,
-    state: State,
+    state: LineState,
 ) -> Result<(LineKind, usize), Fail<Fault>>
     requires within { at ≤ length tokens.now }
     requires begins { IsTrue (begins_line state) }

@@ -5,11 +5,11 @@ ghost use Rattle.p8_blocks.specs.Standing.{head_of};
 ghost use Rattle.p8_blocks.specs.Files.{is_chain_word, is_loop_end_word};
 
 use p8_lexer::Word;
-use p8_lines::State;
+use p8_lines::LineState;
 
 /// A word that begins a block where it stands in column 1.
 #[derive(Clone, Copy)]
-pub enum Head {
+pub enum BlockWord {
     Con,
     Var,
     Obj,
@@ -19,16 +19,16 @@ pub enum Head {
 }
 
 /// The word as one that begins a block.
-pub fn head_of(word: Word) -> Option<Head>
+pub fn head_of(word: Word) -> Option<BlockWord>
     ensures { result ≡ head_of word }
 {
     match word {
-        Word::Con => Some(Head::Con),
-        Word::Var => Some(Head::Var),
-        Word::Obj => Some(Head::Obj),
-        Word::Pub => Some(Head::Pub),
-        Word::Pri => Some(Head::Pri),
-        Word::Dat => Some(Head::Dat),
+        Word::Con => Some(BlockWord::Con),
+        Word::Var => Some(BlockWord::Var),
+        Word::Obj => Some(BlockWord::Obj),
+        Word::Pub => Some(BlockWord::Pub),
+        Word::Pri => Some(BlockWord::Pri),
+        Word::Dat => Some(BlockWord::Dat),
         _ => None,
     }
 }
@@ -63,22 +63,22 @@ pub fn ends_loop(begun: bool, word: Word) -> bool
 }
 
 /// Whether a line that is read from this state and begins with this word opens a block.
-pub fn opens(state: State, word: Word) -> bool
+pub fn opens(state: LineState, word: Word) -> bool
     ensures { result ≡ opens state word }
 {
     match state {
-        State::Statement => matches!(word, Word::If | Word::Ifnot | Word::Case | Word::Repeat),
-        State::CaseItem => true,
+        LineState::Statement => matches!(word, Word::If | Word::Ifnot | Word::Case | Word::Repeat),
+        LineState::CaseItem => true,
         _ => false,
     }
 }
 
 /// Whether such a line is `NEXT` or `QUIT`.
-pub fn leaves_loop(state: State, word: Word) -> bool
+pub fn leaves_loop(state: LineState, word: Word) -> bool
     ensures { result ≡ leaves_loop state word }
 {
     match state {
-        State::Statement => matches!(word, Word::Next | Word::Quit),
+        LineState::Statement => matches!(word, Word::Next | Word::Quit),
         _ => false,
     }
 }

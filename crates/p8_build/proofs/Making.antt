@@ -19,7 +19,7 @@ use Rattle.p8_image.specs.declared.parts.Variable.{Variable}
 use Rattle.p8_stmt.specs.declared.code.MethodCode.{MethodCode}
 use Rattle.p8_build.specs.declared.accepting.AcceptedFile.{AcceptedFile}
 use Rattle.p8_build.specs.declared.string_texts.StringText.{StringText}
-use Rattle.p8_build.specs.declared.texts.TextNumbers.{TextNumbers}
+use Rattle.p8_build.specs.declared.text_numbers.TextNumbers.{TextNumbers}
 use Rattle.p8_build.specs.Strings.{Texts}
 use Rattle.p8_build.specs.Parts.{method_part, method_parts, text_number, text_in, strings_in_method, variable_in, instances_of}
 use Rattle.p8_build.specs.Files.{object_of}

@@ -10,7 +10,7 @@ use Rattle.p8_tree.specs.Views.{form_of}
 use Rattle.p8_image.specs.declared.parts.TextUse.{TextUse}
 use Rattle.p8_gen.specs.declared.code.StringUse.{StringUse}
 use Rattle.p8_build.specs.declared.string_texts.StringText.{StringText}
-use Rattle.p8_build.specs.declared.texts.TextNumbers.{TextNumbers}
+use Rattle.p8_build.specs.declared.text_numbers.TextNumbers.{TextNumbers}
 use Rattle.p8_build.specs.Strings.{Texts}
 
 -- a STRING with its place

@@ -10,7 +10,7 @@ ghost use Rattle.p8_build.specs.Phases.{IfPhaseRefused};
 
 use crate::fault::PhaseRefusal;
 use crate::sizes::code_size;
-use crate::texts::TextNumbers;
+use crate::text_numbers::TextNumbers;
 use p8_gen::Tables;
 use p8_image::MethodPart;
 use p8_kinds::Kinds;

@@ -18,7 +18,7 @@ mod objects;
 mod sizes;
 mod statements;
 mod string_texts;
-mod texts;
+mod text_numbers;
 
 pub use accepting::AcceptedFile;
 pub use building::{Accepted, Built, accept, build, build_parts};

@@ -15,7 +15,7 @@ ghost use Rattle.p8_build.specs.Phases.{object_in};
 
 use crate::accepting::AcceptedFile;
 use crate::coding::parts_of;
-use crate::texts::{TextNumbers, strings_of_all, texts_in};
+use crate::text_numbers::{TextNumbers, strings_of_all, texts_in};
 use p8_constants::{Item, count_value};
 use p8_fold::Consts;
 use p8_image::{ObjectPart, Variable};

@@ -5,7 +5,7 @@ use Rattle.std.proofs.lemmas.Bool.Decides.{nat_tests}
 use Rattle.std.proofs.lemmas.List.{length-drop, length-take-le}
 use Rattle.p8_bytecode.specs.Reading.{op_at}
 use Rattle.p8_image.specs.Headers.{word_at}
-use Rattle.p8_image.specs.Listing.{further, longs_of, line_size, pieces_of}
+use Rattle.p8_image.specs.Listing.{address_after, longs_of, line_size, pieces_of}
 use Rattle.p8_image.proofs.Cutting.{pieces-step}
 use Rattle.p8_code.specs.Listing.{long_lines}
 use Rattle.p8_code.specs.Images.{image_object, image_objects, inner_line, inner_lines, image_method, image_methods, code_size, is_no_object, reach}
@@ -54,13 +54,13 @@ by-none false true x y is fits = absurd (cc)
 
 -- an object more, where the rest comes to the same
 with-rest : (m n base : ℕ) (bytes : List ℕ) (b : Bool) → nat_lt (word_at bytes 0) 4 ≡ b
-    → (4 ≤ word_at bytes 0 → image_objects m (further base (word_at bytes 0)) (drop (word_at bytes 0) bytes) ≡ image_objects n (further base (word_at bytes 0)) (drop (word_at bytes 0) bytes))
+    → (4 ≤ word_at bytes 0 → image_objects m (address_after base (word_at bytes 0)) (drop (word_at bytes 0) bytes) ≡ image_objects n (address_after base (word_at bytes 0)) (drop (word_at bytes 0) bytes))
     → image_objects (suc m) base bytes ≡ image_objects (suc n) base bytes
 with-rest m n base bytes true small rest =
     by-size (nat_lt (word_at bytes 0) 4) (nat_lt (length bytes) (word_at bytes 0)) (long_lines (λ text. text) 0 [] base (longs_of bytes))
-    (image_object base (take (word_at bytes 0) bytes) ++ image_objects m (further base (word_at bytes 0)) (drop (word_at bytes 0) bytes)) small
+    (image_object base (take (word_at bytes 0) bytes) ++ image_objects m (address_after base (word_at bytes 0)) (drop (word_at bytes 0) bytes)) small
     ∙ sym (by-size (nat_lt (word_at bytes 0) 4) (nat_lt (length bytes) (word_at bytes 0)) (long_lines (λ text. text) 0 [] base (longs_of bytes))
-    (image_object base (take (word_at bytes 0) bytes) ++ image_objects n (further base (word_at bytes 0)) (drop (word_at bytes 0) bytes)) small)
+    (image_object base (take (word_at bytes 0) bytes) ++ image_objects n (address_after base (word_at bytes 0)) (drop (word_at bytes 0) bytes)) small)
 with-rest m n base bytes false small rest =
     let some : 4 ≤ word_at bytes 0 = grind (arith, nat_tests) in
     ap (λ (others : List ℕ). if nat_lt (word_at bytes 0) 4 || nat_lt (length bytes) (word_at bytes 0) then long_lines (λ text. text) 0 [] base (longs_of bytes) else image_object base (take (word_at bytes 0) bytes) ++ others)
@@ -72,35 +72,35 @@ same-objects zero n base bytes p q = sym (no-objects n base bytes p)
 same-objects (suc m) zero base bytes p q = no-objects (suc m) base bytes q
 same-objects (suc m) (suc n) base bytes p q =
     with-rest m n base bytes (nat_lt (word_at bytes 0) 4) refl
-    (λ some. same-objects m n (further base (word_at bytes 0)) (drop (word_at bytes 0) bytes) (shorter (word_at bytes 0) bytes m some p) (shorter (word_at bytes 0) bytes n some q))
+    (λ some. same-objects m n (address_after base (word_at bytes 0)) (drop (word_at bytes 0) bytes) (shorter (word_at bytes 0) bytes m some p) (shorter (word_at bytes 0) bytes n some q))
 
 -- the first object and those behind it
 objects-step : (base : ℕ) (bytes : List ℕ) (size : ℕ) → size ≡ word_at bytes 0 → 4 ≤ size → size ≤ length bytes
-    → image_objects (length bytes) base bytes ≡ image_object base (take size bytes) ++ image_objects (length (drop size bytes)) (further base size) (drop size bytes)
+    → image_objects (length bytes) base bytes ≡ image_object base (take size bytes) ++ image_objects (length (drop size bytes)) (address_after base size) (drop size bytes)
 objects-step base [] size is some within = absurd (omega (arith, some, within))
 objects-step base (b ∷ bytes) size is some within =
     let all = b ∷ bytes in
     let small : nat_lt (word_at all 0) 4 ≡ false = grind (arith, nat_tests, is) in
     let fits : nat_lt (length all) (word_at all 0) ≡ false = grind (arith, nat_tests, is) in
     by-none (nat_lt (word_at all 0) 4) (nat_lt (length all) (word_at all 0)) _ _ small fits
-    ∙ ap (λ (n : ℕ). image_object base (take n all) ++ image_objects (length bytes) (further base n) (drop n all)) (sym is)
+    ∙ ap (λ (n : ℕ). image_object base (take n all) ++ image_objects (length bytes) (address_after base n) (drop n all)) (sym is)
     ∙ ap (λ (rest : List ℕ). image_object base (take size all) ++ rest)
-    (same-objects (length bytes) (length (drop size all)) (further base size) (drop size all) (shorter size all (length bytes) some (omega arith)) (omega arith))
+    (same-objects (length bytes) (length (drop size all)) (address_after base size) (drop size all) (shorter size all (length bytes) some (omega arith)) (omega arith))
 
 -- longs, where none begins
 pub objects-end : (base : ℕ) (bytes : List ℕ) → is_no_object bytes (word_at bytes 0) ≡ true → image_objects (length bytes) base bytes ≡ long_lines (λ text. text) 0 [] base (longs_of bytes)
 objects-end base [] ends = refl
 objects-end base (b ∷ bytes) ends =
     let all = b ∷ bytes in
-    ap (λ (c : Bool). if c then long_lines (λ text. text) 0 [] base (longs_of all) else image_object base (take (word_at all 0) all) ++ image_objects (length bytes) (further base (word_at all 0)) (drop (word_at all 0) all)) ends
+    ap (λ (c : Bool). if c then long_lines (λ text. text) 0 [] base (longs_of all) else image_object base (take (word_at all 0) all) ++ image_objects (length bytes) (address_after base (word_at all 0)) (drop (word_at all 0) all)) ends
 
 -- an object more
 pub one-object : (base : ℕ) (bytes : List ℕ) (size : ℕ) (out next whole rest : List ℕ) (there : ℕ) → size ≡ word_at bytes 0 → 4 ≤ size → size ≤ length bytes
-    → next ≡ out ++ image_object base (take size bytes) → there ≡ further base size → rest ≡ drop size bytes → out ++ image_objects (length bytes) base bytes ≡ whole
+    → next ≡ out ++ image_object base (take size bytes) → there ≡ address_after base size → rest ≡ drop size bytes → out ++ image_objects (length bytes) base bytes ≡ whole
     → next ++ image_objects (length rest) there rest ≡ whole
 one-object base bytes size out next whole rest there is some within e_next e_there e_rest so_far =
     (λ i. next ++ image_objects (length (e_rest i)) (e_there i) (e_rest i))
-    ∙ one-more out next whole (image_object base (take size bytes)) (image_objects (length bytes) base bytes) (image_objects (length (drop size bytes)) (further base size) (drop size bytes))
+    ∙ one-more out next whole (image_object base (take size bytes)) (image_objects (length bytes) base bytes) (image_objects (length (drop size bytes)) (address_after base size) (drop size bytes))
     e_next (objects-step base bytes size is some within) so_far
 
 -- ---- where a code ends

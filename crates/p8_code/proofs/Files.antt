@@ -5,8 +5,8 @@ use Rattle.std.proofs.lemmas.List.{drop_more}
 use Rattle.p8_stmt.specs.declared.code.MethodCode.{MethodCode}
 use Rattle.p8_image.specs.declared.parts.ObjectPart.{ObjectPart}
 use Rattle.p8_image.specs.Layout.{size_of}
-use Rattle.p8_image.specs.Listing.{further}
-use Rattle.p8_image.proofs.Cutting.{further-mod}
+use Rattle.p8_image.specs.Listing.{address_after}
+use Rattle.p8_image.proofs.Cutting.{address_after-mod}
 use Rattle.p8_build.specs.declared.accepting.AcceptedFile.{AcceptedFile}
 use Rattle.p8_map.specs.declared.names.FileNames.{FileNames}
 use Rattle.p8_code.specs.Accepting.{code_by, codes_by}
@@ -36,7 +36,7 @@ pub file-told : (files : List FileNames) (objects : List ObjectPart) (sources : 
     → n < length files → length objects ≡ length files → length sources ≡ length files → length accepted ≡ length files
     → (own : FileNames) → own ≡ get_or files n own → (object : ObjectPart) → object ≡ get_or objects n object → (bytes : List ℕ) → bytes ≡ get_or sources n bytes
     → (f : AcceptedFile) → f ≡ get_or accepted n f → (codes : List MethodCode) → codes ≡ unwrap_or (slice_get short n) f.codes
-    → (out more : List ℕ) (base next : ℕ) → more ≡ out ++ object_lines (λ text. text) files base own object (code_by bytes f codes) → next ≡ further base (size_of object % 65536)
+    → (out more : List ℕ) (base next : ℕ) → more ≡ out ++ object_lines (λ text. text) files base own object (code_by bytes f codes) → next ≡ address_after base (size_of object % 65536)
     → (whole : List ℕ) → out ++ lines files base (drop n files) (drop n objects) (codes_by (drop n sources) (drop n accepted) (drop n short)) ≡ whole
     → more ++ lines files next (drop (n + 1) files) (drop (n + 1) objects) (codes_by (drop (n + 1) sources) (drop (n + 1) accepted) (drop (n + 1) short)) ≡ whole
 file-told files objects sources accepted short n inside many_o many_s many_a own own_is object object_is bytes bytes_is f f_is codes codes_are out more base next more_is next_is whole before =
@@ -49,7 +49,7 @@ file-told files objects sources accepted short n inside many_o many_s many_a own
     let found : drop n accepted ≡ f ∷ drop (n + 1) accepted = left-from accepted n f (omega (arith, inside, many_a)) f_is in
     let own_codes : unwrap_or (slice_get (drop n short) 0) f.codes ≡ codes = ap (λ o. unwrap_or o f.codes) (at-front short n) ∙ sym codes_are in
     let on : suc n ≡ n + 1 = omega arith in
-    let further_on : further base (size_of object) ≡ next = sym (further-mod base (size_of object)) ∙ sym next_is in
+    let further_on : address_after base (size_of object) ≡ next = sym (address_after-mod base (size_of object)) ∙ sym next_is in
     let others : drop 1 (drop n short) ≡ drop (n + 1) short = next-front short n ∙ ap (λ k. drop k short) on in
     let opened : lines files base (drop n files) (drop n objects) (codes_by (drop n sources) (drop n accepted) (drop n short)) ≡ here ++ rest next (drop (n + 1) short) =
     (λ k. lines files base (names k) (parts k) (codes_by (texts k) (found k) (drop n short)))

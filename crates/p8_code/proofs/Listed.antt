@@ -13,7 +13,7 @@ use Rattle.p8_image.specs.declared.parts.MethodPart.{MethodPart}
 use Rattle.p8_image.specs.declared.parts.ObjectPart.{ObjectPart}
 use Rattle.p8_image.specs.Layout.{codes_offset, dat_offset, linked, size_of, text_offsets}
 use Rattle.p8_image.specs.Listing as plain
-use Rattle.p8_image.specs.Listing.{further, longs_of, pieces_of, piece_lines, object_line}
+use Rattle.p8_image.specs.Listing.{address_after, longs_of, pieces_of, piece_lines, object_line}
 use Rattle.p8_map.specs.declared.names.MethodNames.{MethodNames}
 use Rattle.p8_map.specs.declared.names.FileNames.{FileNames}
 use Rattle.p8_code.specs.Operations.{Scope}
@@ -29,27 +29,27 @@ ended line = ap (λ (l : List ℕ). l ++ 10 ∷ []) (append-nil line)
 longs-plain : (base : ℕ) (labels : List Label) (place : ℕ) (longs : List ℕ) → long_lines (λ text. []) base labels place longs ≡ plain.long_lines place longs
 longs-plain base labels place [] = refl
 longs-plain base labels place (long ∷ longs) =
-    ap₂ (λ (line rest : List ℕ). line ++ rest) (ended (hex 4 place ++ codes " " ++ hex 8 long ++ codes " " ++ long_text long)) (longs-plain base labels (further place 4) longs)
+    ap₂ (λ (line rest : List ℕ). line ++ rest) (ended (hex 4 place ++ codes " " ++ hex 8 long ++ codes " " ++ long_text long)) (longs-plain base labels (address_after place 4) longs)
 
 -- lines of longs, cut in two
-longs-cut : (place count : ℕ) (longs : List ℕ) → place < 65536 → plain.long_lines place (take count longs) ++ plain.long_lines (further place (4 * count)) (drop count longs) ≡ plain.long_lines place longs
-longs-cut place zero longs low = let same : further place (4 * 0) ≡ place = omega arith in ap (λ (n : ℕ). plain.long_lines n longs) same
+longs-cut : (place count : ℕ) (longs : List ℕ) → place < 65536 → plain.long_lines place (take count longs) ++ plain.long_lines (address_after place (4 * count)) (drop count longs) ≡ plain.long_lines place longs
+longs-cut place zero longs low = let same : address_after place (4 * 0) ≡ place = omega arith in ap (λ (n : ℕ). plain.long_lines n longs) same
 longs-cut place (suc count) [] low = refl
 longs-cut place (suc count) (long ∷ longs) low =
-    let same : further place (4 * suc count) ≡ further (further place 4) (4 * count) = omega arith in
-    ap (λ (n : ℕ). (plain.long_line place long ++ plain.long_lines (further place 4) (take count longs)) ++ plain.long_lines n (drop count longs)) same
-    ∙ append_assoc (plain.long_line place long) (plain.long_lines (further place 4) (take count longs)) (plain.long_lines (further (further place 4) (4 * count)) (drop count longs))
-    ∙ ap (λ (rest : List ℕ). plain.long_line place long ++ rest) (longs-cut (further place 4) count longs (omega arith))
+    let same : address_after place (4 * suc count) ≡ address_after (address_after place 4) (4 * count) = omega arith in
+    ap (λ (n : ℕ). (plain.long_line place long ++ plain.long_lines (address_after place 4) (take count longs)) ++ plain.long_lines n (drop count longs)) same
+    ∙ append_assoc (plain.long_line place long) (plain.long_lines (address_after place 4) (take count longs)) (plain.long_lines (address_after (address_after place 4) (4 * count)) (drop count longs))
+    ∙ ap (λ (rest : List ℕ). plain.long_line place long ++ rest) (longs-cut (address_after place 4) count longs (omega arith))
 
 dat-plain : (source : List (List ℕ)) (base : ℕ) (labels : List Label) (start place told : ℕ) (longs : List ℕ) (lines : List LineBegin) → place < 65536
     → dat_lines (λ text. []) source base labels start place told longs lines ≡ plain.long_lines place longs
 dat-plain source base labels start place told longs [] low = longs-plain base labels place longs
 dat-plain source base labels start place told longs (line ∷ lines) low =
-    let count : ℕ = longs_ahead start (further base line.offset) - told in
-    ap (λ (front : List ℕ). front ++ dat_lines (λ text. []) source base labels start (further place (4 * count)) (told + count) (drop count longs) lines)
+    let count : ℕ = longs_ahead start (address_after base line.offset) - told in
+    ap (λ (front : List ℕ). front ++ dat_lines (λ text. []) source base labels start (address_after place (4 * count)) (told + count) (drop count longs) lines)
     (append-nil (long_lines (λ text. []) base labels place (take count longs)))
     ∙ ap₂ (λ (front rest : List ℕ). front ++ rest) (longs-plain base labels place (take count longs))
-    (dat-plain source base labels start (further place (4 * count)) (told + count) (drop count longs) lines (omega arith))
+    (dat-plain source base labels start (address_after place (4 * count)) (told + count) (drop count longs) lines (omega arith))
     ∙ longs-cut place count longs low
 
 -- ---- a method's code
@@ -58,7 +58,7 @@ ops-plain : (scope : Option Scope) (at place previous : ℕ) (lines : List Line)
 ops-plain scope at place previous lines [] = refl
 ops-plain scope at place previous lines (piece ∷ pieces) =
     ap₂ (λ (line rest : List ℕ). line ++ rest) (ended (hex 4 place ++ flat_map (λ (byte : ℕ). 32 ∷ hex 2 byte) piece))
-    (ops-plain scope (at + length piece) (further place (length piece)) (statement_line previous lines) (drop 1 lines) pieces)
+    (ops-plain scope (at + length piece) (address_after place (length piece)) (statement_line previous lines) (drop 1 lines) pieces)
 
 methods-plain : (scope : MethodNames → MethodPart → Scope) (offset : ℕ → ℕ) (number place : ℕ) (names : List MethodNames) (parts : List MethodPart) (others : List MethodCode)
     → length names ≡ length parts → length others ≡ length parts
@@ -71,7 +71,7 @@ methods-plain scope offset number place (m ∷ names) (part ∷ parts) (code ∷
     ap₂ (λ (own rest : List ℕ). own ++ rest)
     (ap₂ (λ (line rest : List ℕ). line ++ rest) (ended (codes "method " ++ decimal number ++ codes " " ++ hex 4 place))
     (ops-plain (Some (scope m part)) 0 place 0 code.lines (pieces_of (linked offset part.uses part.code))))
-    (methods-plain scope offset (number + 1) (further place (length part.code)) names parts others (omega arith) (omega arith))
+    (methods-plain scope offset (number + 1) (address_after place (length part.code)) names parts others (omega arith) (omega arith))
 
 -- ---- objects
 
@@ -79,8 +79,8 @@ object-plain : (files : List FileNames) (base : ℕ) (own : FileNames) (object :
     → object_lines (λ text. []) files base own object file ≡ plain.object_lines own.file base object
 object-plain files base own object file a b =
     ap₂ (λ (longs methods : List ℕ). object_line own.file base ++ longs ++ methods)
-    (dat-plain file.source base own.labels (further base (dat_offset object)) (further base (dat_offset object)) 0 (longs_of object.dat) file.lines (omega arith))
-    (methods-plain (scope_at files own object file.source) (slice_index (text_offsets object)) 1 (further base (codes_offset object)) own.methods object.methods file.methods a b)
+    (dat-plain file.source base own.labels (address_after base (dat_offset object)) (address_after base (dat_offset object)) 0 (longs_of object.dat) file.lines (omega arith))
+    (methods-plain (scope_at files own object file.source) (slice_index (text_offsets object)) 1 (address_after base (codes_offset object)) own.methods object.methods file.methods a b)
 
 pub objects-plain : (files : List FileNames) (base : ℕ) (names : List FileNames) (objects : List ObjectPart) (known : List FileCode) → HaveObjects names objects known
     → objects_lines (λ text. []) files base names objects known ≡ plain.objects_lines base (map (λ (file : FileNames). file.file) names) objects
@@ -91,4 +91,4 @@ objects-plain files base (own ∷ names) [] known have = absurd have
 objects-plain files base (own ∷ names) (object ∷ objects) [] have = absurd have
 objects-plain files base (own ∷ names) (object ∷ objects) (file ∷ known) have =
     ap₂ (λ (first rest : List ℕ). first ++ rest) (object-plain files base own object file have.0 have.1)
-    (objects-plain files (further base (size_of object)) names objects known have.2)
+    (objects-plain files (address_after base (size_of object)) names objects known have.2)

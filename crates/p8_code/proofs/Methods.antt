@@ -7,7 +7,7 @@ use Rattle.p8_stmt.specs.declared.code.MethodCode.{MethodCode}
 use Rattle.p8_image.specs.declared.parts.MethodPart.{MethodPart}
 use Rattle.p8_image.specs.declared.parts.TextUse.{TextUse}
 use Rattle.p8_image.specs.Layout.{codes_of, linked}
-use Rattle.p8_image.specs.Listing.{further}
+use Rattle.p8_image.specs.Listing.{address_after}
 use Rattle.p8_map.specs.declared.names.MethodNames.{MethodNames}
 use Rattle.p8_code.specs.Operations.{Scope}
 use Rattle.p8_code.specs.Listing.{method_lines, methods_lines}
@@ -32,5 +32,5 @@ uncut scope offset number place (m ∷ names) (part ∷ parts) (code ∷ others)
     let taken : take (length part.code) (own ++ rest) ≡ own = ap (λ (n : ℕ). take n (own ++ rest)) long ∙ take-append_seam own rest in
     let left : drop (length part.code) (own ++ rest) ≡ rest = ap (λ (n : ℕ). drop n (own ++ rest)) long ∙ drop-append_seam own rest in
     ap₂ (λ (bytes more : List ℕ). method_lines (λ text. text) (scope m part) number place code bytes ++ more) taken
-    (ap (λ (bytes : List ℕ). cut_lines scope (number + 1) (further place (length part.code)) bytes names parts others) left
-    ∙ uncut scope offset (number + 1) (further place (length part.code)) names parts others)
+    (ap (λ (bytes : List ℕ). cut_lines scope (number + 1) (address_after place (length part.code)) bytes names parts others) left
+    ∙ uncut scope offset (number + 1) (address_after place (length part.code)) names parts others)

@@ -12,7 +12,7 @@ use Rattle.p8_bytecode.specs.declared.operands.Operands.TheVariants.{Offset}
 use Rattle.p8_bytecode.specs.Table.{operands_of, is_step}
 use Rattle.p8_bytecode.specs.Reading.{op_at}
 use Rattle.p8_image.specs.Headers.{word_at}
-use Rattle.p8_image.specs.Listing.{further, longs_of, method_line, pieces_of}
+use Rattle.p8_image.specs.Listing.{address_after, longs_of, method_line, pieces_of}
 use Rattle.p8_map.specs.Map.{text_line}
 use Rattle.p8_code.specs.Listing.{long_lines, op_lines}
 
@@ -57,7 +57,7 @@ entry object n = if nat_lt (method_count object) n then length object else word_
 -- an object inside, by its place in the table
 abbrev pub inner_line : (base : ℕ) → (object : List ℕ) → (n : ℕ) → List ℕ
 inner_line base object n =
-    hex 4 (further base (4 * n)) ++ codes " child " ++ decimal n ++ codes " " ++ hex 4 (further base (word_at object (4 * n)))
+    hex 4 (address_after base (4 * n)) ++ codes " child " ++ decimal n ++ codes " " ++ hex 4 (address_after base (word_at object (4 * n)))
     ++ codes " +" ++ hex 4 (word_at object (4 * n + 2)) ++ 10 ∷ []
 
 abbrev pub inner_lines : (base : ℕ) → (object : List ℕ) → (n count : ℕ) → List ℕ
@@ -71,15 +71,15 @@ rest_line place (byte ∷ bytes) = text_line place (byte ∷ bytes)
 
 -- a method by the bytes up to the next one, the first so many of which are code
 abbrev pub cut_method : (place : ℕ) → (bytes : List ℕ) → (size : ℕ) → List ℕ
-cut_method place bytes size = op_lines (λ text. text) None 0 place 0 [] (pieces_of (take size bytes)) ++ rest_line (further place size) (drop size bytes)
+cut_method place bytes size = op_lines (λ text. text) None 0 place 0 [] (pieces_of (take size bytes)) ++ rest_line (address_after place size) (drop size bytes)
 
 abbrev pub method_bytes : (object : List ℕ) → (n : ℕ) → List ℕ
 method_bytes object n = take (entry object (n + 1) - entry object n) (drop (entry object n) object)
 
 abbrev pub image_method : (base : ℕ) → (object : List ℕ) → (n : ℕ) → List ℕ
 image_method base object n =
-    method_line n (further base (entry object n))
-    ++ cut_method (further base (entry object n)) (method_bytes object n) (code_size 0 (pieces_of (method_bytes object n)))
+    method_line n (address_after base (entry object n))
+    ++ cut_method (address_after base (entry object n)) (method_bytes object n) (code_size 0 (pieces_of (method_bytes object n)))
 
 abbrev pub image_methods : (base : ℕ) → (object : List ℕ) → (n count : ℕ) → List ℕ
 image_methods base object n zero = []
@@ -88,7 +88,8 @@ image_methods base object n (suc count) = image_method base object n ++ image_me
 -- what stands between its table and its first method
 abbrev pub longs_between : (base : ℕ) → (object : List ℕ) → List ℕ
 longs_between base object =
-    long_lines (λ text. text) 0 [] (further base (table_size object)) (longs_of (take (entry object 1 - table_size object) (drop (table_size object) object)))
+    long_lines (λ text. text) 0 [] (address_after base (table_size object))
+    (longs_of (take (entry object 1 - table_size object) (drop (table_size object) object)))
 
 abbrev pub image_object : (base : ℕ) → (object : List ℕ) → List ℕ
 image_object base object =
@@ -109,7 +110,7 @@ image_objects zero base bytes = []
 image_objects (suc most) base bytes =
     let size : ℕ = word_at bytes 0 in
     if is_no_object bytes size then long_lines (λ text. text) 0 [] base (longs_of bytes)
-    else image_object base (take size bytes) ++ image_objects most (further base size) (drop size bytes)
+    else image_object base (take size bytes) ++ image_objects most (address_after base size) (drop size bytes)
 
 -- an image by the bytes of its `.binary` file, whose header has 16
 abbrev pub image_code : (file : List ℕ) → List ℕ

@@ -14,7 +14,7 @@ use Rattle.p8_stmt.specs.declared.code.MethodCode.{MethodCode}
 use Rattle.p8_image.specs.declared.parts.MethodPart.{MethodPart}
 use Rattle.p8_image.specs.declared.parts.ObjectPart.{ObjectPart}
 use Rattle.p8_image.specs.Layout.{dat_offset, codes_offset, text_offsets, size_of, linked}
-use Rattle.p8_image.specs.Listing.{further, longs_of, pieces_of, object_line}
+use Rattle.p8_image.specs.Listing.{address_after, longs_of, pieces_of, object_line}
 use Rattle.p8_map.specs.declared.names.MethodNames.{MethodNames}
 use Rattle.p8_map.specs.declared.names.FileNames.{FileNames}
 use Rattle.p8_legend.specs.ProjectLegends.{with_labels, with_variables}
@@ -30,7 +30,7 @@ More = List ℕ → List ℕ
 abbrev pub labels_text : (base place : ℕ) → (before : List ℕ) → List Label → List ℕ
 labels_text base place before [] = []
 labels_text base place before (label ∷ labels) =
-    if further base label.offset / 4 == place / 4 then before ++ label.name ++ labels_text base place (codes ", ") labels
+    if address_after base label.offset / 4 == place / 4 then before ++ label.name ++ labels_text base place (codes ", ") labels
     else labels_text base place before labels
 
 -- a long: where it stands, its digits, its text as an instruction, and its labels
@@ -41,7 +41,7 @@ long_line more base labels place long =
 -- longs one after the other
 abbrev pub long_lines : More → (base : ℕ) → List Label → (place : ℕ) → List ℕ → List ℕ
 long_lines more base labels place [] = []
-long_lines more base labels place (long ∷ longs) = long_line more base labels place long ++ long_lines more base labels (further place 4) longs
+long_lines more base labels place (long ∷ longs) = long_line more base labels place long ++ long_lines more base labels (address_after place 4) longs
 
 -- how far ahead of an address another one is, in longs
 abbrev pub longs_ahead : (from to : ℕ) → ℕ
@@ -52,9 +52,9 @@ longs_ahead from to = (to + 65536 - from) % 65536 / 4
 abbrev pub dat_lines : More → (source : List (List ℕ)) → (base : ℕ) → List Label → (start place told : ℕ) → (longs : List ℕ) → List LineBegin → List ℕ
 dat_lines more source base labels start place told longs [] = long_lines more base labels place longs
 dat_lines more source base labels start place told longs (line ∷ lines) =
-    let count : ℕ = longs_ahead start (further base line.offset) - told in
+    let count : ℕ = longs_ahead start (address_after base line.offset) - told in
     long_lines more base labels place (take count longs) ++ more (source_line source line.place.line)
-    ++ dat_lines more source base labels start (further place (4 * count)) (told + count) (drop count longs) lines
+    ++ dat_lines more source base labels start (address_after place (4 * count)) (told + count) (drop count longs) lines
 
 -- ---- a method's code
 
@@ -62,7 +62,7 @@ dat_lines more source base labels start place told longs (line ∷ lines) =
 abbrev pub op_line : More → Option Scope → (at place : ℕ) → (piece : List ℕ) → List ℕ
 op_line more scope at place piece =
     hex 4 place ++ flat_map (λ (byte : ℕ). 32 ∷ hex 2 byte) piece
-    ++ more (op_text scope at (further place (length piece)) (length piece) (op_at piece 0)) ++ 10 ∷ []
+    ++ more (op_text scope at (address_after place (length piece)) (length piece) (op_at piece 0)) ++ 10 ∷ []
 
 -- the line of the statement that the next bytecode is made from, and that line of the source where the bytecode before it is of another
 abbrev pub statement_line : (previous : ℕ) → List Line → ℕ
@@ -78,7 +78,7 @@ abbrev pub op_lines : More → Option Scope → (at place previous : ℕ) → Li
 op_lines more scope at place previous lines [] = []
 op_lines more scope at place previous lines (piece ∷ pieces) =
     more (heading scope previous (statement_line previous lines)) ++ op_line more scope (at + 1) place piece
-    ++ op_lines more scope (at + length piece) (further place (length piece)) (statement_line previous lines) (drop 1 lines) pieces
+    ++ op_lines more scope (at + length piece) (address_after place (length piece)) (statement_line previous lines) (drop 1 lines) pieces
 
 -- names one after the other; this stands before the next one
 abbrev pub listed : (before : List ℕ) → List (List ℕ) → List ℕ
@@ -119,7 +119,7 @@ abbrev pub methods_lines : More → (MethodNames → MethodPart → Scope) → (
     List MethodCode → List ℕ
 methods_lines more scope offset number place (m ∷ names) (part ∷ parts) (code ∷ others) =
     method_lines more (scope m part) number place code (linked offset part.uses part.code)
-    ++ methods_lines more scope offset (number + 1) (further place (length part.code)) names parts others
+    ++ methods_lines more scope offset (number + 1) (address_after place (length part.code)) names parts others
 methods_lines more scope offset number place _ _ _ = []
 
 -- what is known of a file beside its names: its lines, where those of its DAT begin, and the codes of its methods with their lines
@@ -132,14 +132,15 @@ pub record FileCode : Type 0 where
 abbrev pub object_lines : More → List FileNames → (base : ℕ) → FileNames → ObjectPart → FileCode → List ℕ
 object_lines more files base own object file =
     object_line own.file base
-    ++ dat_lines more file.source base own.labels (further base (dat_offset object)) (further base (dat_offset object)) 0 (longs_of object.dat) file.lines
+    ++ dat_lines more file.source base own.labels (address_after base (dat_offset object)) (address_after base (dat_offset object)) 0
+    (longs_of object.dat) file.lines
     ++ methods_lines more (scope_at files own object file.source) (slice_index (text_offsets object)) 1
-    (further base (codes_offset object)) own.methods object.methods file.methods
+    (address_after base (codes_offset object)) own.methods object.methods file.methods
 
 -- objects one after the other
 abbrev pub objects_lines : More → (files : List FileNames) → (base : ℕ) → List FileNames → List ObjectPart → List FileCode → List ℕ
 objects_lines more files base (own ∷ names) (object ∷ objects) (file ∷ others) =
-    object_lines more files base own object file ++ objects_lines more files (further base (size_of object)) names objects others
+    object_lines more files base own object file ++ objects_lines more files (address_after base (size_of object)) names objects others
 objects_lines more files base _ _ _ = []
 
 -- a project by the names of its files, their objects, the top file's first, and what is known of each beside that

@@ -15,7 +15,7 @@ use Rattle.p8_image.specs.declared.parts.ObjectPart.{ObjectPart}
 use Rattle.p8_map.specs.declared.names.MethodNames.{MethodNames}
 use Rattle.p8_map.specs.declared.names.FileNames.{FileNames}
 use Rattle.p8_map.specs.Strings.{items_text}
-use Rattle.p8_legend.specs.declared.ranges.Found.{Found}
+use Rattle.p8_legend.specs.declared.ranges.FoundRange.{FoundRange}
 use Rattle.p8_legend.specs.Ranges.{found_at, text_of}
 use Rattle.p8_legend.specs.Legends.{offset_text}
 use Rattle.p8_legend.specs.ProjectLegends.{Named}
@@ -71,7 +71,7 @@ call_text s op =
 -- ---- variables
 
 -- what stands at an offset by the range in which it lies
-abbrev pub found_text : (texts : List (List ℕ)) → (offset : ℕ) → Option Found → List ℕ
+abbrev pub found_text : (texts : List (List ℕ)) → (offset : ℕ) → Option FoundRange → List ℕ
 found_text texts offset None = hex 4 offset
 found_text texts offset (Some found) = text_of texts found.number ++ offset_text found.offset
 

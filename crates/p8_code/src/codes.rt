@@ -10,7 +10,7 @@ use crate::source::push_source_line;
 use p8_gen::Line;
 use p8_image::{line_size, push_bytes};
 use p8_instr::push_text;
-use p8_map::{further, push_place};
+use p8_map::{address_after, push_place};
 use p8_words::NoMemory;
 
 /// Appends the line of a bytecode that stands at an address, and the first byte behind its own at a place of the code.
@@ -23,7 +23,7 @@ fn push_op_line(
 ) -> Result<(), NoMemory>
     ensures { OnOk result (out.new.items ≡ out.old.items ++ op_line (λ text. text) (scope_in scope.entry) at place piece.now) }
 {
-    let after = further(place, piece.len() as u64);
+    let after = address_after(place, piece.len() as u64);
     push_place(out, place)?;
     push_bytes(out, piece)?;
     push_op(out, scope, at, after, piece)?;
@@ -77,7 +77,7 @@ pub(crate) fn push_op_lines(
         let line = statement_line(previous, lines);
         push_heading(out, scope, previous, line)?;
         push_op_line(out, scope, at as u64, place, &rest[..size])?;
-        place = further(place, size as u64);
+        place = address_after(place, size as u64);
         previous = line;
         lines = behind(lines, 1);
         rest = behind(rest, size);

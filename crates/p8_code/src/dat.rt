@@ -8,7 +8,7 @@ use p8_dat::LineBegin;
 use p8_image::push_long_head;
 use p8_instr::push_text;
 use p8_kinds::Label;
-use p8_map::further;
+use p8_map::address_after;
 use p8_tree::Text;
 use p8_words::NoMemory;
 use std::alloc::Global;
@@ -19,7 +19,7 @@ fn push_labels(out: &mut Vec<u8>, base: u16, place: u16, labels: &[Label]) -> Re
 {
     let mut before: &[u8] = b" ' ";
     for label in labels {
-        if further(base, u64::from(label.offset)) / 4 == place / 4 {
+        if address_after(base, u64::from(label.offset)) / 4 == place / 4 {
             push_text(out, before)?;
             push_text(out, label.name.as_slice())?;
             before = b", ";
@@ -57,7 +57,7 @@ pub(crate) fn push_longs(
 {
     for long in longs {
         push_long(alloc, out, base, labels, place, *long)?;
-        place = further(place, 4);
+        place = address_after(place, 4);
     }
     Ok(())
 }
@@ -85,7 +85,7 @@ pub(crate) fn push_dat(
     let mut place = start;
     let mut told: u16 = 0;
     for line in lines {
-        let ahead = longs_ahead(start, further(base, u64::from(line.offset)));
+        let ahead = longs_ahead(start, address_after(base, u64::from(line.offset)));
         let more = ahead.saturating_sub(told);
         push_longs(
             alloc,
@@ -96,7 +96,7 @@ pub(crate) fn push_dat(
             front(longs, usize::from(more)),
         )?;
         push_source_line(out, source, line.place.line)?;
-        place = further(place, 4 * u64::from(more));
+        place = address_after(place, 4 * u64::from(more));
         longs = behind(longs, usize::from(more));
         told += more;
     }

@@ -16,7 +16,7 @@ use crate::slices::{behind, front};
 use p8_bytecode::{Op, Operands, operands_of, take_op};
 use p8_image::{Image, line_size, longs_of, push_method_head};
 use p8_instr::push_text;
-use p8_map::{further, push_number, push_place, push_text_line};
+use p8_map::{address_after, push_number, push_place, push_text_line};
 use p8_words::NoMemory;
 use std::alloc::Global;
 
@@ -154,11 +154,11 @@ fn push_inner_line(out: &mut Vec<u8>, base: u16, object: &[u8], number: u16) -> 
     ensures { OnOk result (out.new.items ≡ out.old.items ++ inner_line base object.now number) }
 {
     let place = 4 * u32::from(number);
-    push_place(out, further(base, u64::from(place)))?;
+    push_place(out, address_after(base, u64::from(place)))?;
     push_text(out, b" child ")?;
     push_number(out, u64::from(number))?;
     push_text(out, b" ")?;
-    push_place(out, further(base, u64::from(word_at(object, place))))?;
+    push_place(out, address_after(base, u64::from(word_at(object, place))))?;
     push_text(out, b" +")?;
     push_place(out, word_at(object, place + 2))?;
     push_text(out, b"\n")
@@ -200,7 +200,7 @@ fn push_cut_method(out: &mut Vec<u8>, place: u16, bytes: &[u8], size: usize) -> 
     ensures { OnOk result (out.new.items ≡ out.old.items ++ cut_method place bytes.now size) }
 {
     push_op_lines(out, None, place, &[], front(bytes, size))?;
-    push_rest(out, further(place, size as u64), behind(bytes, size))
+    push_rest(out, address_after(place, size as u64), behind(bytes, size))
 }
 
 /// Appends the lines of a method.
@@ -208,7 +208,7 @@ fn push_method(out: &mut Vec<u8>, base: u16, object: &[u8], number: u16) -> Resu
     requires { number < 65535 }
     ensures { OnOk result (out.new.items ≡ out.old.items ++ image_method base object.now number) }
 {
-    let place = further(base, entry(object, number) as u64);
+    let place = address_after(base, entry(object, number) as u64);
     let bytes = method_bytes(object, number);
     push_method_head(out, u64::from(number), place)?;
     push_text(out, b"\n")?;
@@ -239,7 +239,14 @@ fn push_dat(alloc: Global, out: &mut Vec<u8>, base: u16, object: &[u8]) -> Resul
         alloc,
         front(behind(object, begin), end.saturating_sub(begin)),
     )?;
-    push_longs(alloc, out, 0, &[], further(base, begin as u64), &longs)
+    push_longs(
+        alloc,
+        out,
+        0,
+        &[],
+        address_after(base, begin as u64),
+        &longs,
+    )
 }
 
 /// Appends the lines of an object that begins at an address.
@@ -288,7 +295,7 @@ fn push_objects(
     let mut rest = bytes;
     'objects: while let Some(size) = object_size(rest) {
         push_object(alloc, out, base, front(rest, size))?;
-        base = further(base, size as u64);
+        base = address_after(base, size as u64);
         rest = behind(rest, size);
     }
     let longs = longs_of(alloc, rest)?;

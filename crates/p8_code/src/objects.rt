@@ -12,7 +12,7 @@ use p8_dat::LineBegin;
 use p8_image::{ObjectPart, Offsets, linked_codes, longs_of, push_method_head, push_object_line};
 use p8_instr::push_text;
 use p8_legend::{Ranges, label_names, variable_names};
-use p8_map::{FileNames, MethodNames, further};
+use p8_map::{FileNames, MethodNames, address_after};
 use p8_stmt::MethodCode;
 use p8_tree::Text;
 use p8_words::NoMemory;
@@ -123,7 +123,7 @@ impl Object<'_> {
             };
             let size = part.code.len();
             push_method(out, &scope, number, place, code, front(rest, size))?;
-            place = further(place, size as u64);
+            place = address_after(place, size as u64);
             rest = behind(rest, size);
             number = number.checked_add(1).ok_or(NoMemory)?;
             names = other_names;
@@ -148,7 +148,7 @@ impl Object<'_> {
             self.part.variables.as_slice(),
         )?;
         let labels = label_names(alloc, offsets.codes, own.labels.as_slice())?;
-        let dat = further(base, u64::from(offsets.dat));
+        let dat = address_after(base, u64::from(offsets.dat));
         push_object_line(out, own.file.as_slice(), base)?;
         push_dat(
             alloc,
@@ -160,7 +160,7 @@ impl Object<'_> {
             &longs,
             self.lines,
         )?;
-        let place = further(base, u64::from(offsets.codes));
+        let place = address_after(base, u64::from(offsets.codes));
         self.push_methods(out, &variables, &labels, place, &codes)?;
         Ok(())
     }

@@ -14,7 +14,7 @@ use crate::objects::Object;
 use crate::source::lines_of;
 use p8_build::{Accepted, AcceptedFile, BuildFault, accept};
 use p8_image::{ObjectPart, Offsets};
-use p8_map::{FileNames, further, names_of_accepted};
+use p8_map::{FileNames, address_after, names_of_accepted};
 use p8_opt::shorten;
 use p8_stmt::MethodCode;
 use p8_tree::{List, Project, ProjectFile, Text};
@@ -162,7 +162,7 @@ fn code_of_parts(
             file,
             codes,
         )?;
-        base = further(base, u64::from(Offsets::of(object).size));
+        base = address_after(base, u64::from(Offsets::of(object).size));
     }
     Ok(out)
 }

@@ -4,7 +4,7 @@ use Rattle.p8_access.specs.declared.kinds.Access.{Access}
 use Rattle.p8_access.specs.declared.order.Turn.{Turn}
 use Rattle.p8_access.specs.Lives.{Loaded, Begun, PasmBegun, SpinBegun}
 use Rattle.p8_bcog.specs.Counters.{IsCounter}
-use Rattle.p8_cog.specs.declared.state.State.{State}
+use Rattle.p8_cog.specs.declared.state.PasmState.{PasmState}
 use Rattle.p8_cog.specs.Replay.{Asks, Goes, IsLoading, replayed}
 
 -- a long of a memory, the lowest byte first
@@ -21,7 +21,7 @@ loaded_from memory code register long =
 -- stands there, and it asks.
 pub record IsAskedIn (loaded : Loaded) (turns : List Turn) (register long : ℕ) : Type 0 where
   pub done : ℕ
-  pub s : State
+  pub s : PasmState
   pub left : List Turn
   pub clock : ℕ
   pub access : Access

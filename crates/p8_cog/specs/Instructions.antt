@@ -7,8 +7,8 @@ use Rattle.p8_access.specs.declared.kinds.Access.TheVariants.{PinsIn, Clock}
 use Rattle.p8_instr.specs.declared.instruction.Instr.{Instr}
 use Rattle.p8_instr.specs.Instruction.{is_immediate}
 use Rattle.p8_instr.specs.Conditions.{is_met}
-use Rattle.p8_cog.specs.declared.kind.Kind.{Kind}
-use Rattle.p8_cog.specs.declared.kind.Kind.TheVariants.{Skipped, Halting, OfHub, Waiting, Computing}
+use Rattle.p8_cog.specs.declared.instruction_kind.InstructionKind.{InstructionKind}
+use Rattle.p8_cog.specs.declared.instruction_kind.InstructionKind.TheVariants.{Skipped, Halting, OfHub, Waiting, Computing}
 
 -- ---- the special registers that are spoken of by name; those from CTRA on belong to the counters and
 -- the video generator
@@ -101,14 +101,14 @@ lockset = 6
 abbrev pub is_halting : (opcode : ℕ) → Bool
 is_halting opcode = (nat_le mul opcode && nat_le opcode ones) || (opcode == waitvid)
 
-abbrev pub executed_kind : (opcode : ℕ) → Kind
+abbrev pub executed_kind : (opcode : ℕ) → InstructionKind
 executed_kind opcode =
     if is_halting opcode then Halting
     else (if nat_le opcode hubop then OfHub
     else (if nat_le waitpeq opcode then Waiting
     else Computing))
 
-abbrev pub kind_of : Instr → (c z : Bool) → Kind
+abbrev pub kind_of : Instr → (c z : Bool) → InstructionKind
 kind_of i c z = if is_met i.cond c z then executed_kind i.opcode else Skipped
 
 -- how wide the access of the opcodes 0 to 2 is

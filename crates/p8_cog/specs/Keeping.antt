@@ -12,13 +12,13 @@ use Rattle.p8_access.specs.declared.lives.Next.TheVariants.{At, Quiet, More}
 use Rattle.p8_access.specs.Proper.{value_of}
 use Rattle.p8_access.specs.Lives.{Loaded, Begun, PasmBegun, SpinBegun, has_ended, Tells, IsOnTime, IsAnnounced, announced_by, IsThorough, IsNear}
 use Rattle.p8_access.specs.Lives.{IsWithin, Spends}
-use Rattle.p8_cog.specs.declared.state.State.{State}
+use Rattle.p8_cog.specs.declared.state.PasmState.{PasmState}
 use Rattle.p8_cog.specs.declared.ending.Ending.TheVariants.{Ended, Whole}
 use Rattle.p8_cog.specs.declared.progress.Had.{Had}
 use Rattle.p8_cog.specs.declared.progress.Had.TheVariants.{Nothing}
 use Rattle.p8_cog.specs.declared.progress.Progress.{Progress}
-use Rattle.p8_cog.specs.declared.stage.Stage.{Stage}
-use Rattle.p8_cog.specs.declared.stage.Stage.TheVariants.{Loading, Running, Over}
+use Rattle.p8_cog.specs.declared.stage.PasmStage.{PasmStage}
+use Rattle.p8_cog.specs.declared.stage.PasmStage.TheVariants.{Loading, Running, Over}
 use Rattle.p8_cog.specs.Replay.{instruction, played, Outcome, Asks, Goes, Ends, step, after, first_with, loading, loaded_by, replayed, IsAsked}
 use Rattle.p8_cog.specs.Replay.{BeginsAt, Begins}
 use Rattle.p8_cog.specs.Standing.{turns_of, running_at, standing_at, IsReading, StandsIn, StandsFor, clock_in, clock_of}
@@ -83,7 +83,7 @@ tells-in done loaded here reached ts until (More bound) is stops =
 
 -- ---- what a cog tells that stands for these turns
 
-pub stops-tells : (done cog code reached until : ℕ) (stage : Stage) (p : Progress) (next : Next) →
+pub stops-tells : (done cog code reached until : ℕ) (stage : PasmStage) (p : Progress) (next : Next) →
     Stops cog (standing_at stage code p) reached until next → (b : Begun) (ts : List Turn) → StandsFor done cog code stage p b ts →
     Tells (IsAsked b ts) until next
 stops-tells done cog code reached until stage p next stops (PasmBegun loaded) ts stands =
@@ -91,7 +91,7 @@ stops-tells done cog code reached until stage p next stops (PasmBegun loaded) ts
     (subst (λ (n : ℕ). Stops n (standing_at stage code p) reached until next) (sym stands.own) stops)
 stops-tells done cog code reached until stage p next stops (SpinBegun entered) ts stands = absurd stands
 
-pub stops-thorough : (done cog code reached until : ℕ) (stage : Stage) (p : Progress) (next : Next) →
+pub stops-thorough : (done cog code reached until : ℕ) (stage : PasmStage) (p : Progress) (next : Next) →
     Stops cog (standing_at stage code p) reached until next → (b : Begun) (ts : List Turn) → StandsFor done cog code stage p b ts →
     IsThorough (Begins b ts) done until next
 stops-thorough done cog code reached until stage p next stops (PasmBegun loaded) ts stands =
@@ -100,27 +100,28 @@ stops-thorough done cog code reached until stage p next stops (PasmBegun loaded)
 stops-thorough done cog code reached until stage p next stops (SpinBegun entered) ts stands = absurd stands
 
 -- a life that is over asks nothing, and nothing of it is left
-pub over-tells : (done cog code until : ℕ) (stage : Stage) (p : Progress) → stage ≡ Over → (b : Begun) (ts : List Turn) →
+pub over-tells : (done cog code until : ℕ) (stage : PasmStage) (p : Progress) → stage ≡ Over → (b : Begun) (ts : List Turn) →
     StandsFor done cog code stage p b ts → Tells (IsAsked b ts) until Quiet
 over-tells done cog code until stage p is (PasmBegun loaded) ts stands =
-    λ clock access asked. not-before loaded ts done Ends until (stands.reached ∙ ap (λ (s : Stage). standing_at s code p) is) tt asked.0 clock access asked.1
+    λ clock access asked. not-before loaded ts done Ends until
+    (stands.reached ∙ ap (λ (s : PasmStage). standing_at s code p) is) tt asked.0 clock access asked.1
 over-tells done cog code until stage p is (SpinBegun entered) ts stands = absurd stands
 
-pub over-thorough : (done cog code until : ℕ) (stage : Stage) (p : Progress) → stage ≡ Over → (b : Begun) (ts : List Turn) →
+pub over-thorough : (done cog code until : ℕ) (stage : PasmStage) (p : Progress) → stage ≡ Over → (b : Begun) (ts : List Turn) →
     StandsFor done cog code stage p b ts → IsThorough (Begins b ts) done until Quiet
 over-thorough done cog code until stage p is (PasmBegun loaded) ts stands =
-    λ n begin begins lt. quiet-thorough loaded ts done n begin until Ends (stands.reached ∙ ap (λ (s : Stage). standing_at s code p) is) tt begins lt
+    λ n begin begins lt. quiet-thorough loaded ts done n begin until Ends (stands.reached ∙ ap (λ (s : PasmStage). standing_at s code p) is) tt begins lt
 over-thorough done cog code until stage p is (SpinBegun entered) ts stands = absurd stands
 
-pub over-ended : (done cog code : ℕ) (stage : Stage) (p : Progress) → stage ≡ Over → (b : Begun) (ts : List Turn) →
+pub over-ended : (done cog code : ℕ) (stage : PasmStage) (p : Progress) → stage ≡ Over → (b : Begun) (ts : List Turn) →
     StandsFor done cog code stage p b ts → has_ended cog ts ≡ true
 over-ended done cog code stage p is (PasmBegun loaded) ts stands = stands.ended is
 over-ended done cog code stage p is (SpinBegun entered) ts stands = absurd stands
 
-pub at-stage : (cog code reached until : ℕ) (stage is : Stage) (p : Progress) (next : Next) → stage ≡ is →
+pub at-stage : (cog code reached until : ℕ) (stage is : PasmStage) (p : Progress) (next : Next) → stage ≡ is →
     Stops cog (standing_at is code p) reached until next → Stops cog (standing_at stage code p) reached until next
 at-stage cog code reached until stage is p next e stops =
-    subst (λ (s : Stage). Stops cog (standing_at s code p) reached until next) (sym e) stops
+    subst (λ (s : PasmStage). Stops cog (standing_at s code p) reached until next) (sym e) stops
 
 -- what is told isn't farther than the next window
 pub stops-near : (cog reached until : ℕ) (here : Outcome) (next : Next) → Stops cog here reached until next → IsNear 16 reached next
@@ -140,22 +141,22 @@ stops-far cog before reached done budget until here (At clock access) all most s
 stops-far cog before reached done budget until here Quiet all most stops = omega (arith, stops.1, most, all)
 stops-far cog before reached done budget until here (More bound) all most stops = tt
 
-pub announces-none : (cog code : ℕ) (stage : Stage) (p : Progress) → Announces cog code stage p None
+pub announces-none : (cog code : ℕ) (stage : PasmStage) (p : Progress) → Announces cog code stage p None
 announces-none cog code stage p = λ clock access e. absurd (let x : None ≡ Some (clock, access) = e in cc)
 
-pub announces-same : (cog code : ℕ) (stage : Stage) (p : Progress) (one other : Option (ℕ × Access)) → one ≡ other →
+pub announces-same : (cog code : ℕ) (stage : PasmStage) (p : Progress) (one other : Option (ℕ × Access)) → one ≡ other →
     Announces cog code stage p other → Announces cog code stage p one
 announces-same cog code stage p one other is announces = subst (Announces cog code stage p) (sym is) announces
 
 -- where an access is told one is asked
-pub told-asks : (cog code reached until : ℕ) (stage : Stage) (p : Progress) (next : Next) (asking : Bool) → asking ≡ is_access next →
+pub told-asks : (cog code reached until : ℕ) (stage : PasmStage) (p : Progress) (next : Next) (asking : Bool) → asking ≡ is_access next →
     Stops cog (standing_at stage code p) reached until next → asking ≡ true → is_asking (step cog (standing_at stage code p)) ≡ true
 told-asks cog code reached until stage p (At clock access) asking is stops told = ap is_asking stops.0
 told-asks cog code reached until stage p Quiet asking is stops told = absurd (let x : false ≡ true = sym is ∙ told in cc)
 told-asks cog code reached until stage p (More bound) asking is stops told = absurd (let x : false ≡ true = sym is ∙ told in cc)
 
 -- a life that runs isn't in a load
-pub not-in-load : (stage : Stage) (p : Progress) → stage ≡ Running → stage ≡ Loading → IsInLoad p
+pub not-in-load : (stage : PasmStage) (p : Progress) → stage ≡ Running → stage ≡ Loading → IsInLoad p
 not-in-load stage p is e = absurd (let x : Running ≡ Loading = sym is ∙ e in cc)
 
 -- what asks at once is what is told again
@@ -184,7 +185,7 @@ unfolding asked_in
 same-asked one other e = ap (asked_in one) e
 
 -- what is told is announced
-pub stops-announces : (cog code until : ℕ) (stage : Stage) (p : Progress) (next : Next) → until < 2 ^ 62 →
+pub stops-announces : (cog code until : ℕ) (stage : PasmStage) (p : Progress) (next : Next) → until < 2 ^ 62 →
     Stops cog (standing_at stage code p) (clock_of p) until next → Announces cog code stage p (announced_by next)
 stops-announces cog code until stage p (At c a) room stops = λ clock access e.
     let same = same-asked (c, a) (clock, access) e in
@@ -195,7 +196,7 @@ stops-announces cog code until stage p Quiet room stops = announces-none cog cod
 stops-announces cog code until stage p (More bound) room stops = announces-none cog code stage p
 
 -- what is told, and whether an access is, tell what is announced
-pub told-announced : (cog code reached until : ℕ) (stage : Stage) (p : Progress) (next : Next) (asking : Bool) → asking ≡ is_access next →
+pub told-announced : (cog code reached until : ℕ) (stage : PasmStage) (p : Progress) (next : Next) (asking : Bool) → asking ≡ is_access next →
     Stops cog (standing_at stage code p) reached until next → announced_at asking cog code stage p ≡ announced_by next
 unfolding asked_now
 told-announced cog code reached until stage p (At clock access) asking is stops =
@@ -206,7 +207,7 @@ told-announced cog code reached until stage p (More bound) asking is stops = ap 
 -- ---- a run of instructions
 
 -- its place is the place in the replay
-pub placed : (done cog code : ℕ) (stage : Stage) (p : Progress) (b : Begun) (ts : List Turn) → StandsFor done cog code stage p b ts →
+pub placed : (done cog code : ℕ) (stage : PasmStage) (p : Progress) (b : Begun) (ts : List Turn) → StandsFor done cog code stage p b ts →
     has_ended cog ts ≡ false → (clock : ℕ) × Begins b ts done clock
 unfolding after
 placed done cog code Loading p (PasmBegun loaded) ts stands live =
@@ -219,24 +220,24 @@ placed done cog code Over p (PasmBegun loaded) ts stands live = absurd (let x : 
 placed done cog code stage p (SpinBegun entered) ts stands live = absurd stands
 
 -- a running cog stands where its replay has come
-runs : (done cog code : ℕ) (stage : Stage) (p : Progress) (loaded : Loaded) (ts : List Turn) → stage ≡ Running → loaded.cog ≡ cog →
+runs : (done cog code : ℕ) (stage : PasmStage) (p : Progress) (loaded : Loaded) (ts : List Turn) → stage ≡ Running → loaded.cog ≡ cog →
     loaded.code ≡ code → replayed done loaded ts ≡ running_at p → StandsIn done cog code stage p loaded ts
 runs done cog code stage p loaded ts is own from reached = record {
   own = own;
   from = from;
-  reached = reached ∙ ap (λ (s : Stage). standing_at s code p) (sym is);
+  reached = reached ∙ ap (λ (s : PasmStage). standing_at s code p) (sym is);
   fresh = λ e. absurd (let x : Loading ≡ Running = sym e ∙ is in cc);
   reads = λ e. absurd (let x : Loading ≡ Running = sym e ∙ is in cc);
   ended = λ e. absurd (let x : Over ≡ Running = sym e ∙ is in cc);
 }
 
 -- after the instructions that were done it stands for the same turns
-pub led : (done more cog code : ℕ) (stage : Stage) (p new : Progress) → stage ≡ Running → Leads cog more (running_at p) (running_at new) →
+pub led : (done more cog code : ℕ) (stage : PasmStage) (p new : Progress) → stage ≡ Running → Leads cog more (running_at p) (running_at new) →
     (b : Begun) (ts : List Turn) → StandsFor done cog code stage p b ts → StandsFor (done + more) cog code stage new b ts
 led done more cog code stage p new is leads (PasmBegun loaded) ts stands =
     runs (done + more) cog code stage new loaded ts is stands.own stands.from
     (ap (λ (n : ℕ). after n (done + more) (loaded_by loaded ts)) stands.own
-    ∙ leads done _ (ap (λ (n : ℕ). after n done (loaded_by loaded ts)) (sym stands.own) ∙ stands.reached ∙ ap (λ (s : Stage). standing_at s code p) is))
+    ∙ leads done _ (ap (λ (n : ℕ). after n done (loaded_by loaded ts)) (sym stands.own) ∙ stands.reached ∙ ap (λ (s : PasmStage). standing_at s code p) is))
 led done more cog code stage p new is leads (SpinBegun entered) ts stands = absurd stands
 
 -- a place that asks at once leads nowhere else
@@ -255,12 +256,12 @@ spent-told done budget reached until (At clock access) none some spent = tt
 spent-told done budget reached until Quiet none some spent = tt
 spent-told done budget reached until (More bound) none some spent = absurd (let e : done ≡ budget = spent.0 in omega (arith, e, none, some))
 
-pub again : (cog code done budget clock until reached : ℕ) (access : Access) (stage : Stage) (p new : Progress) (next : Next) → stage ≡ Running →
+pub again : (cog code done budget clock until reached : ℕ) (access : Access) (stage : PasmStage) (p new : Progress) (next : Next) → stage ≡ Running →
     step cog (standing_at stage code p) ≡ Asks clock access → 1 ≤ budget → clock < until → Leads cog done (running_at p) (running_at new) →
     Stops cog (running_at new) reached until next → IsSpent done budget reached until next → next ≡ At clock access
 unfolding after
 again cog code done budget clock until reached access stage p new next is asks some below leads stops spent =
-    let here : step cog (running_at p) ≡ Asks clock access = ap (λ (s : Stage). step cog (standing_at s code p)) (sym is) ∙ asks in
+    let here : step cog (running_at p) ≡ Asks clock access = ap (λ (s : PasmStage). step cog (standing_at s code p)) (sym is) ∙ asks in
     let led_to : after cog done (running_at p) ≡ running_at new = ap (λ (k : ℕ). after cog k (running_at p)) (sym (zero-add done)) ∙ leads 0
     (running_at p) refl in
     let none : done ≡ 0 = stuck cog done clock access (running_at p) new here led_to in
@@ -277,13 +278,13 @@ pub load-clock : (p : Progress) → IsInLoad p → clock_of p ≡ p.begun.clock
 load-clock p load = whole-clock p.begun.clock p.had load.1
 
 -- one instruction more was done
-pub leads-more : (cog done : ℕ) (from : Outcome) (s next : State) → Leads cog done from (Goes s []) → played (instruction cog s) [] ≡ Goes next [] →
+pub leads-more : (cog done : ℕ) (from : Outcome) (s next : PasmState) → Leads cog done from (Goes s []) → played (instruction cog s) [] ≡ Goes next [] →
     Leads cog (done + 1) from (Goes next [])
 leads-more cog done from s next leads e = λ n o h.
     ap (λ (k : ℕ). after cog k o) (sym (add_assoc n done 1)) ∙ after-one cog (n + done) o ∙ ap (step cog) (leads n o h) ∙ e
 
 -- nothing comes before a clock that an instruction's begin isn't before
-pub quiet-from : (cog until : ℕ) (s : State) → until ≤ s.clock → IsFrom until (played (instruction cog s) []) × (until ≤ s.clock + 16)
+pub quiet-from : (cog until : ℕ) (s : PasmState) → until ≤ s.clock → IsFrom until (played (instruction cog s) []) × (until ≤ s.clock + 16)
 quiet-from cog until s le = (step-from cog until (Goes s []) le, omega (arith, le))
 
 -- a clock is told where it is below a bound
@@ -309,7 +310,7 @@ read-stops cog code until p next load is =
     told-stops cog (clock_of p) (p.begun.clock + 16) until (standing_at Loading code p) (Read Long (code + 4 * p.begun.at)) next is refl
     (omega (arith, here)) (omega (arith, here))
 
-pub below-stops : (cog clock until : ℕ) (s : State) (access : Access) (next : Next) →
+pub below-stops : (cog clock until : ℕ) (s : PasmState) (access : Access) (next : Next) →
     next ≡ (if nat_lt clock until then At clock access else Quiet) → played (instruction cog s) [] ≡ Asks clock access →
     Stops cog (Goes s []) s.clock until next
 below-stops cog clock until s access next is asks =
@@ -318,7 +319,7 @@ below-stops cog clock until s access next is asks =
 -- ---- a turn
 
 -- the turn of what was announced is of what comes next, and not before what was reached
-pub comes : (cog code : ℕ) (stage : Stage) (p : Progress) (announced : Option (ℕ × Access)) (turn : Turn) → Announces cog code stage p announced →
+pub comes : (cog code : ℕ) (stage : PasmStage) (p : Progress) (announced : Option (ℕ × Access)) (turn : Turn) → Announces cog code stage p announced →
     IsAnnounced announced turn → Comes (step cog (standing_at stage code p)) turn × (clock_of p ≤ turn.key.clock)
 comes cog code stage p None turn announces is = absurd is
 comes cog code stage p (Some asked) turn announces is =
@@ -326,23 +327,23 @@ comes cog code stage p (Some asked) turn announces is =
     let le : asked.0 ≤ turn.key.clock = on-time asked.1 asked.0 turn.key.clock is.1 in
     ((asked.0, h.0 ∙ ap (Asks asked.0) (sym is.0), subst (λ (x : Access). IsOnTime x asked.0 turn.key.clock) (sym is.0) is.1, h.2), omega (arith, h.1, le))
 
-pub comes-running : (cog code : ℕ) (stage : Stage) (p : Progress) (announced : Option (ℕ × Access)) (turn : Turn) → stage ≡ Running →
+pub comes-running : (cog code : ℕ) (stage : PasmStage) (p : Progress) (announced : Option (ℕ × Access)) (turn : Turn) → stage ≡ Running →
     Announces cog code stage p announced → IsAnnounced announced turn → Comes (step cog (running_at p)) turn × (clock_of p ≤ turn.key.clock)
 comes-running cog code stage p announced turn is announces turns =
     let h = comes cog code stage p announced turn announces turns in
-    (subst (λ (s : Stage). Comes (step cog (standing_at s code p)) turn) is h.0, h.1)
+    (subst (λ (s : PasmStage). Comes (step cog (standing_at s code p)) turn) is h.0, h.1)
 
-pub comes-never : (cog code : ℕ) (stage : Stage) (p : Progress) (announced : Option (ℕ × Access)) (turn : Turn) → stage ≡ Over →
+pub comes-never : (cog code : ℕ) (stage : PasmStage) (p : Progress) (announced : Option (ℕ × Access)) (turn : Turn) → stage ≡ Over →
     Announces cog code stage p announced → IsAnnounced announced turn → ⊥
 comes-never cog code stage p announced turn is announces turns =
-    let h = subst (λ (s : Stage). Comes (step cog (standing_at s code p)) turn) is (comes cog code stage p announced turn announces turns).0 in
+    let h = subst (λ (s : PasmStage). Comes (step cog (standing_at s code p)) turn) is (comes cog code stage p announced turn announces turns).0 in
     let x : Ends ≡ Asks h.0 turn.access = h.1 in cc
 
 -- a read has its turn 16 clocks after the turn before
-pub comes-read : (cog code : ℕ) (stage : Stage) (p : Progress) (announced : Option (ℕ × Access)) (turn : Turn) → stage ≡ Loading →
+pub comes-read : (cog code : ℕ) (stage : PasmStage) (p : Progress) (announced : Option (ℕ × Access)) (turn : Turn) → stage ≡ Loading →
     Announces cog code stage p announced → IsAnnounced announced turn → turn.key.clock ≡ p.begun.clock + 16
 comes-read cog code stage p announced turn is announces turns =
-    let h = subst (λ (s : Stage). Comes (step cog (standing_at s code p)) turn) is (comes cog code stage p announced turn announces turns).0 in
+    let h = subst (λ (s : PasmStage). Comes (step cog (standing_at s code p)) turn) is (comes cog code stage p announced turn announces turns).0 in
     let e : Asks (p.begun.clock + 16) (Read Long (code + 4 * p.begun.at)) ≡ Asks h.0 turn.access = h.1 in
     let what : Read Long (code + 4 * p.begun.at) ≡ turn.access = cc in
     let when : p.begun.clock + 16 ≡ h.0 = cc in
@@ -363,38 +364,38 @@ takes-turn : (done cog : ℕ) (p : Progress) (loaded : Loaded) (ts : List Turn) 
 takes-turn done cog p loaded ts turn own reached =
     turn-taken done loaded ts turn p.begun (turns_of p.had) reached ∙ ap (λ (n : ℕ). played (instruction n p.begun) (turns_of p.had ++ turn ∷ [])) own
 
-pub over-stands : (done cog code : ℕ) (stage : Stage) (p new : Progress) (turn : Turn) → stage ≡ Running → Comes (step cog (running_at p)) turn →
+pub over-stands : (done cog code : ℕ) (stage : PasmStage) (p new : Progress) (turn : Turn) → stage ≡ Running → Comes (step cog (running_at p)) turn →
     Takes cog p turn new Ended → (b : Begun) (ts : List Turn) → StandsFor done cog code stage p b ts →
     StandsFor (done + 1) cog code Over new b (ts ++ turn ∷ [])
 over-stands done cog code stage p new turn is turns takes (PasmBegun loaded) ts stands = record {
   own = stands.own;
   from = stands.from;
-  reached = takes-turn done cog p loaded ts turn stands.own (stands.reached ∙ ap (λ (s : Stage). standing_at s code p) is) ∙ takes.0;
+  reached = takes-turn done cog p loaded ts turn stands.own (stands.reached ∙ ap (λ (s : PasmStage). standing_at s code p) is) ∙ takes.0;
   fresh = λ e. absurd (let x : Over ≡ Loading = e in cc);
   reads = λ e. absurd (let x : Over ≡ Loading = e in cc);
   ended = λ e. ended-behind cog ts turn (last-ends cog p.begun (turns_of p.had) turn turns takes.0);
 }
 over-stands done cog code stage p new turn is turns takes (SpinBegun entered) ts stands = absurd stands
 
-pub whole-stands : (done cog code : ℕ) (stage : Stage) (p new : Progress) (turn : Turn) → stage ≡ Running → Takes cog p turn new Whole →
+pub whole-stands : (done cog code : ℕ) (stage : PasmStage) (p new : Progress) (turn : Turn) → stage ≡ Running → Takes cog p turn new Whole →
     (b : Begun) (ts : List Turn) → StandsFor done cog code stage p b ts → StandsFor (done + 1) cog code stage new b (ts ++ turn ∷ [])
 whole-stands done cog code stage p new turn is takes (PasmBegun loaded) ts stands =
     runs (done + 1) cog code stage new loaded (ts ++ turn ∷ []) is stands.own stands.from
-    (takes-turn done cog p loaded ts turn stands.own (stands.reached ∙ ap (λ (s : Stage). standing_at s code p) is) ∙ takes.0)
+    (takes-turn done cog p loaded ts turn stands.own (stands.reached ∙ ap (λ (s : PasmStage). standing_at s code p) is) ∙ takes.0)
 whole-stands done cog code stage p new turn is takes (SpinBegun entered) ts stands = absurd stands
 
-pub half-stands : (done cog code : ℕ) (stage : Stage) (p new : Progress) (turn : Turn) → stage ≡ Running →
+pub half-stands : (done cog code : ℕ) (stage : PasmStage) (p new : Progress) (turn : Turn) → stage ≡ Running →
     running_at new ≡ Goes p.begun (turns_of p.had ++ turn ∷ []) → (b : Begun) (ts : List Turn) → StandsFor done cog code stage p b ts →
     StandsFor done cog code stage new b (ts ++ turn ∷ [])
 half-stands done cog code stage p new turn is keeps (PasmBegun loaded) ts stands =
     runs done cog code stage new loaded (ts ++ turn ∷ []) is stands.own stands.from
-    (turn-kept done loaded ts turn p.begun (turns_of p.had) (stands.reached ∙ ap (λ (s : Stage). standing_at s code p) is) ∙ sym keeps)
+    (turn-kept done loaded ts turn p.begun (turns_of p.had) (stands.reached ∙ ap (λ (s : PasmStage). standing_at s code p) is) ∙ sym keeps)
 half-stands done cog code stage p new turn is keeps (SpinBegun entered) ts stands = absurd stands
 
 -- ---- the load
 
 -- what a load asks that goes on after these longs
-reading-asks : (code : ℕ) (s : State) (loaded : Loaded) (ts : List Turn) → IsReading code s loaded ts →
+reading-asks : (code : ℕ) (s : PasmState) (loaded : Loaded) (ts : List Turn) → IsReading code s loaded ts →
     loaded_by loaded ts ≡ Asks (s.clock + 16) (Read Long (code + 4 * s.at))
 unfolding loading
 reading-asks code s loaded ts r =
@@ -440,7 +441,7 @@ unfolding loading
 goes-more loaded ts turn to_come longs goes_on more =
     ap (played (loading loaded 496 [])) (append_assoc ts (turn ∷ []) more) ∙ goes_on (turn ∷ more)
 
-read-more : (code : ℕ) (old : State) (new : Progress) (loaded : Loaded) (ts : List Turn) (turn : Turn) (longs : List ℕ) (to_come : ℕ) →
+read-more : (code : ℕ) (old : PasmState) (new : Progress) (loaded : Loaded) (ts : List Turn) (turn : Turn) (longs : List ℕ) (to_come : ℕ) →
     IsReading code old loaded ts → take old.at old.registers ≡ longs → length longs ≡ old.at → old.at + suc to_come ≡ 496 →
     ((more : List Turn) → played (loading loaded 496 []) (ts ++ more) ≡ played (loading loaded (suc to_come) longs) more) →
     Loads old (value_of turn.answer) new Loading → IsReading code new.begun loaded (ts ++ turn ∷ [])
@@ -458,7 +459,7 @@ read-more code old new loaded ts turn longs (suc n) r held count all goes_on loa
 }
 
 -- after the last read the first instruction begins
-read-last : (old : State) (new : Progress) (loaded : Loaded) (ts : List Turn) (turn : Turn) (longs : List ℕ) (to_come : ℕ) → old.par ≡ loaded.par →
+read-last : (old : PasmState) (new : Progress) (loaded : Loaded) (ts : List Turn) (turn : Turn) (longs : List ℕ) (to_come : ℕ) → old.par ≡ loaded.par →
     old.clock ≡ loaded.load + 16 * old.at → take old.at old.registers ≡ longs → old.at + suc to_come ≡ 496 →
     ((more : List Turn) → played (loading loaded 496 []) (ts ++ more) ≡ played (loading loaded (suc to_come) longs) more) →
     Loads old (value_of turn.answer) new Running → loaded_by loaded (ts ++ turn ∷ []) ≡ running_at new
@@ -471,10 +472,10 @@ read-last old new loaded ts turn longs zero par clock held all goes_on loads =
     ∙ ap (λ (p : ℕ). first_with (take old.at old.registers ++ value_of turn.answer ∷ []) p (loaded.load + 8192)) (sym par)
     ∙ ap (first_with (take old.at old.registers ++ value_of turn.answer ∷ []) old.par) begin ∙ sym loads.1 in
     ap (loaded_by loaded) (sym (append-nil (ts ++ turn ∷ []))) ∙ goes-more loaded ts turn zero longs goes_on []
-    ∙ ap (λ (s : State). Goes s []) first ∙ ap (λ (had : Had). Goes new.begun (turns_of had)) (sym loads.2)
+    ∙ ap (λ (s : PasmState). Goes s []) first ∙ ap (λ (had : Had). Goes new.begun (turns_of had)) (sym loads.2)
 
 -- the last long of a load, and the first instruction after it
-pub last-loads : (old mid new : State) (long : ℕ) → mid.par ≡ old.par → mid.at ≡ old.at + 1 → mid.clock ≡ old.clock + 16 →
+pub last-loads : (old mid new : PasmState) (long : ℕ) → mid.par ≡ old.par → mid.at ≡ old.at + 1 → mid.clock ≡ old.clock + 16 →
     take (old.at + 1) mid.registers ≡ take old.at old.registers ++ long ∷ [] → old.at < 496 → 496 ≤ mid.at →
     new ≡ first_with (take 496 mid.registers) mid.par (mid.clock + 256) →
     (old.at ≡ 495) × (new ≡ first_with (take old.at old.registers ++ long ∷ []) old.par (old.clock + 272))
@@ -489,7 +490,7 @@ last-loads old mid new long par at clock longs below all begins =
           ∙ ap (first_with (take old.at old.registers ++ long ∷ []) old.par) when,
     )
 
-load-by : (done cog code : ℕ) (stage : Stage) (old : State) (new : Progress) (loaded : Loaded) (ts : List Turn) (turn : Turn) → loaded.cog ≡ cog →
+load-by : (done cog code : ℕ) (stage : PasmStage) (old : PasmState) (new : Progress) (loaded : Loaded) (ts : List Turn) (turn : Turn) → loaded.cog ≡ cog →
     done ≡ 0 → IsReading code old loaded ts → Loads old (value_of turn.answer) new stage → StandsIn done cog code stage new loaded (ts ++ turn ∷ [])
 unfolding after
 load-by done cog code Loading old new loaded ts turn own none r loads =
@@ -501,7 +502,7 @@ load-by done cog code Running old new loaded ts turn own none r loads =
 load-by done cog code Over old new loaded ts turn own none r loads = absurd loads
 
 -- a load that takes a long stands for one turn more
-pub load-stands : (done cog code : ℕ) (stage behind : Stage) (p new : Progress) (turn : Turn) → stage ≡ Loading →
+pub load-stands : (done cog code : ℕ) (stage behind : PasmStage) (p new : Progress) (turn : Turn) → stage ≡ Loading →
     Loads p.begun (value_of turn.answer) new behind → (b : Begun) (ts : List Turn) → StandsFor done cog code stage p b ts →
     StandsFor done cog code behind new b (ts ++ turn ∷ [])
 load-stands done cog code stage behind p new turn is loads (PasmBegun loaded) ts stands =
@@ -509,14 +510,14 @@ load-stands done cog code stage behind p new turn is loads (PasmBegun loaded) ts
 load-stands done cog code stage behind p new turn is loads (SpinBegun entered) ts stands = absurd stands
 
 -- a load that has taken a long is a cog in order
-pub record IsLoaded (cog clock : ℕ) (stage : Stage) (new : Progress) : Type 0 where
+pub record IsLoaded (cog clock : ℕ) (stage : PasmStage) (new : Progress) : Type 0 where
   pub at : new.begun.at < 512
   pub least : clock + 16 ≤ clock_of new
   pub most : clock_of new ≤ clock + 272
   pub half : IsHalf cog new
   pub loads : stage ≡ Loading → IsInLoad new
 
-pub load-holds : (cog : ℕ) (stage : Stage) (old : State) (long : ℕ) (new : Progress) → Loads old long new stage → IsLoaded cog old.clock stage new
+pub load-holds : (cog : ℕ) (stage : PasmStage) (old : PasmState) (long : ℕ) (new : Progress) → Loads old long new stage → IsLoaded cog old.clock stage new
 load-holds cog Loading old long new loads =
     let here : clock_of new ≡ new.begun.clock = ap (clock_in new.begun.clock) loads.5 in
     let none : is_half new.had ≡ false = ap is_half loads.5 in
@@ -529,8 +530,8 @@ load-holds cog Loading old long new loads =
     }
 load-holds cog Running old long new loads =
     let here : clock_of new ≡ new.begun.clock = ap (clock_in new.begun.clock) loads.2 in
-    let clock : new.begun.clock ≡ old.clock + 272 = ap (λ (s : State). s.clock) loads.1 in
-    let at : new.begun.at ≡ 0 = ap (λ (s : State). s.at) loads.1 in
+    let clock : new.begun.clock ≡ old.clock + 272 = ap (λ (s : PasmState). s.clock) loads.1 in
+    let at : new.begun.at ≡ 0 = ap (λ (s : PasmState). s.at) loads.1 in
     let none : is_half new.had ≡ false = ap is_half loads.2 in
     record {
       at = omega (arith, at);

@@ -5,8 +5,8 @@ use Rattle.p8_access.specs.declared.order.Turn.{Turn}
 use Rattle.p8_access.specs.Lives.{Begun, PasmBegun, SpinBegun, first_turn_of, IsTurnAt}
 use Rattle.p8_bcog.specs.Laws as Bytecodes
 use Rattle.p8_cog.specs.Replaying as Instructions
-use Rattle.p8_cog.specs.declared.life_kind.Kind.{Kind}
-use Rattle.p8_cog.specs.declared.life_kind.Kind.TheVariants.{Pasm, Spin}
+use Rattle.p8_cog.specs.declared.life_kind.LifeKind.{LifeKind}
+use Rattle.p8_cog.specs.declared.life_kind.LifeKind.TheVariants.{Pasm, Spin}
 use Rattle.p8_cog.specs.Kinds.{number_of}
 use Rattle.p8_cog.specs.Lives.{asks}
 
@@ -24,6 +24,6 @@ asked-later (PasmBegun loaded) ts turn c d a e one at other = Instructions.asked
 asked-later (SpinBegun entered) ts turn c d a e one at other = Bytecodes.asked-later (SpinBegun entered) ts turn c d a e one at other
 
 -- an instruction takes 4 clocks or more, and a bytecode 32
-pub paced : (kind : Kind) → 4 ≤ number_of kind 4 32
+pub paced : (kind : LifeKind) → 4 ≤ number_of kind 4 32
 paced Pasm = omega arith
 paced Spin = omega arith

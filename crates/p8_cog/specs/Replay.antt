@@ -23,10 +23,10 @@ use Rattle.p8_instr.specs.declared.instruction.Instr.{Instr}
 use Rattle.p8_instr.specs.Instruction.{instr_of, bit_range, writes_z, writes_c, writes_result, is_immediate}
 use Rattle.p8_alu.specs.declared.effect.Effect.{Effect}
 use Rattle.p8_alu.specs.Effects.{effect_of, plain_effect, sum_effect, is_set}
-use Rattle.p8_cog.specs.declared.kind.Kind.{Kind}
-use Rattle.p8_cog.specs.declared.kind.Kind.TheVariants.{Skipped, Halting, OfHub, Waiting, Computing}
+use Rattle.p8_cog.specs.declared.instruction_kind.InstructionKind.{InstructionKind}
+use Rattle.p8_cog.specs.declared.instruction_kind.InstructionKind.TheVariants.{Skipped, Halting, OfHub, Waiting, Computing}
 use Rattle.p8_cog.specs.declared.hub.Request.{Request}
-use Rattle.p8_cog.specs.declared.state.State.{State}
+use Rattle.p8_cog.specs.declared.state.PasmState.{PasmState}
 use Rattle.p8_cog.specs.Instructions.{par_register, inb_register, outa_register, dira_register, ctra_register, hubop, jmpret, djnz, tjz, waitpeq}
 use Rattle.p8_cog.specs.Instructions.{waitpne, waitcnt, clkset, cogid, coginit, cogstop, locknew, lockret, lockset, kind_of, width_of, source_access}
 
@@ -37,7 +37,7 @@ pub data Course : Type 0 where
   -- it asks an access at this clock, and goes on by its turn
   Ask : (clock : ℕ) (access : Access) (go : Turn → Course) → Course
   -- it is done, and this stands where the next one begins
-  Go : (state : State) → Course
+  Go : (state : PasmState) → Course
   -- the life is over
   End : Course
 
@@ -52,45 +52,45 @@ halt clock reason = Ask clock (Halt reason) (λ turn. End)
 -- ---- what an instruction reads
 
 -- the instruction at hand
-abbrev pub at_hand : State → Instr
+abbrev pub at_hand : PasmState → Instr
 at_hand s = instr_of s.long
 
 -- the value of the destination: also of PAR, CNT, INA and INB it is the long there
-abbrev pub destination_value : State → ℕ
+abbrev pub destination_value : PasmState → ℕ
 destination_value s = slice_index s.registers (at_hand s).dest
 
 -- a register in the source field: PAR has the value of the start, and INB is 0
-abbrev pub register_value : State → (register : ℕ) → ℕ
+abbrev pub register_value : PasmState → (register : ℕ) → ℕ
 register_value s register =
     if register == par_register then s.par
     else (if register == inb_register then 0 else slice_index s.registers register)
 
 -- the value of a source that isn't read by an access: the field itself, or the register that it names
-abbrev pub source_value : State → ℕ
+abbrev pub source_value : PasmState → ℕ
 source_value s =
     if is_immediate (at_hand s) then (at_hand s).source else register_value s (at_hand s).source
 
 -- the source is read, at this clock where that takes an access, and the instruction goes on with its value
-abbrev pub sourced_by : Option Access → (clock : ℕ) → State → (ℕ → Course) → Course
+abbrev pub sourced_by : Option Access → (clock : ℕ) → PasmState → (ℕ → Course) → Course
 sourced_by None clock s go = go (source_value s)
 sourced_by (Some access) clock s go = Ask clock access (λ turn. go (value_of turn.answer))
 
-abbrev pub sourced : (clock : ℕ) → State → (ℕ → Course) → Course
+abbrev pub sourced : (clock : ℕ) → PasmState → (ℕ → Course) → Course
 sourced clock s go = sourced_by (source_access (at_hand s)) clock s go
 
 -- the next address
-abbrev pub next_of : State → ℕ
+abbrev pub next_of : PasmState → ℕ
 next_of s = (s.at + 1) % 512
 
 -- ---- what an instruction writes
 
 -- the registers with its result, where it writes that
-abbrev pub registers_with : State → Effect → List ℕ
+abbrev pub registers_with : PasmState → Effect → List ℕ
 registers_with s e =
     if writes_result (at_hand s) then slice_set s.registers (at_hand s).dest e.result else s.registers
 
 -- where the next instruction begins: at this address and clock, with the long that was fetched
-abbrev pub goes_on : State → Effect → (address long clock : ℕ) → State
+abbrev pub goes_on : PasmState → Effect → (address long clock : ℕ) → PasmState
 goes_on s e address long clock = record {
   registers = registers_with s e;
   par = s.par;
@@ -102,15 +102,15 @@ goes_on s e address long clock = record {
 }
 
 -- the next long is the one that stood at its address before the result was written
-abbrev pub fetched_before : State → Effect → (address clock : ℕ) → State
+abbrev pub fetched_before : PasmState → Effect → (address clock : ℕ) → PasmState
 fetched_before s e address clock = goes_on s e address (slice_index s.registers address) clock
 
 -- the next long is the one that stands at its address after the result was written
-abbrev pub fetched_after : State → Effect → (address clock : ℕ) → State
+abbrev pub fetched_after : PasmState → Effect → (address clock : ℕ) → PasmState
 fetched_after s e address clock = goes_on s e address (slice_index (registers_with s e) address) clock
 
 -- nothing is written
-abbrev pub passed : State → State
+abbrev pub passed : PasmState → PasmState
 passed s = record s {
   at = next_of s;
   long = slice_index s.registers (next_of s);
@@ -130,21 +130,21 @@ abbrev pub result_access : Instr → (result : ℕ) → Option Access
 result_access i result = if writes_result i then register_access i.dest result else None
 
 -- the write of a result at this clock, after which the instruction is done
-abbrev pub written_by : Option Access → (cog clock : ℕ) → (next : State) → Course
+abbrev pub written_by : Option Access → (cog clock : ℕ) → (next : PasmState) → Course
 written_by None cog clock next = Go next
 written_by (Some access) cog clock next = ask cog clock access (λ turn. Go next)
 
-abbrev pub write : (cog : ℕ) → State → Effect → (clock : ℕ) → (next : State) → Course
+abbrev pub write : (cog : ℕ) → PasmState → Effect → (clock : ℕ) → (next : PasmState) → Course
 write cog s e clock next = written_by (result_access (at_hand s) e.result) cog clock next
 
 -- after an access the result is written at this clock, and the instruction ends a clock later
-abbrev pub ends_after : (cog : ℕ) → State → Effect → (clock : ℕ) → Course
+abbrev pub ends_after : (cog : ℕ) → PasmState → Effect → (clock : ℕ) → Course
 ends_after cog s e clock = write cog s e clock (fetched_before s e (next_of s) (clock + 1))
 
 -- ---- what computes
 
 -- its result and flags
-abbrev pub effect : State → (source : ℕ) → Effect
+abbrev pub effect : PasmState → (source : ℕ) → Effect
 effect s source = effect_of (at_hand s).opcode (destination_value s) source s.c s.z (next_of s)
 
 -- DJNZ and TJNZ jump where the result isn't 0, TJZ where it is
@@ -152,21 +152,21 @@ abbrev pub jumps : (opcode result : ℕ) → Bool
 jumps opcode result = if opcode == tjz then result == 0 else not (result == 0)
 
 -- where one of these three goes on: where it doesn't jump it takes 4 clocks more, and fetches after its write
-abbrev pub tested_jump : State → (source : ℕ) → State
+abbrev pub tested_jump : PasmState → (source : ℕ) → PasmState
 tested_jump s source =
     if jumps (at_hand s).opcode (effect s source).result then fetched_before s (effect s source) (source % 512) (s.clock + 4)
     else fetched_after s (effect s source) (next_of s) (s.clock + 8)
 
 -- the address at which any other goes on: JMPRET jumps
-abbrev pub plain_next : State → (source : ℕ) → ℕ
+abbrev pub plain_next : PasmState → (source : ℕ) → ℕ
 plain_next s source = if (at_hand s).opcode == jmpret then source % 512 else next_of s
 
-abbrev pub computed : State → (source : ℕ) → State
+abbrev pub computed : PasmState → (source : ℕ) → PasmState
 computed s source =
     if nat_le djnz (at_hand s).opcode then tested_jump s source
     else fetched_before s (effect s source) (plain_next s source) (s.clock + 4)
 
-abbrev pub compute : (cog : ℕ) → State → (source : ℕ) → Course
+abbrev pub compute : (cog : ℕ) → PasmState → (source : ℕ) → Course
 compute cog s source = write cog s (effect s source) (s.clock + 3) (computed s source)
 
 -- ---- the hub
@@ -227,17 +227,17 @@ hub_request i value source =
 
 -- an access of the hub, at the cog's first window after the instruction's begin; after its turn the
 -- result is written 6 clocks later
-abbrev pub ask_hub : (cog : ℕ) → State → Request → Course
+abbrev pub ask_hub : (cog : ℕ) → PasmState → Request → Course
 ask_hub cog s r =
     ask cog (window_of cog (s.clock + 1)) r.access (λ turn. ends_after cog s (answered r.kept turn.answer) (turn.key.clock + 6))
 
-abbrev pub use_hub : (cog : ℕ) → State → (source : ℕ) → Course
+abbrev pub use_hub : (cog : ℕ) → PasmState → (source : ℕ) → Course
 use_hub cog s source = ask_hub cog s (hub_request (at_hand s) (destination_value s) source)
 
 -- ---- waits
 
 -- WAITPEQ and WAITPNE with C wait for the pins of port B, which this machine doesn't have
-abbrev pub is_port_wait : State → Bool
+abbrev pub is_port_wait : PasmState → Bool
 is_port_wait s = s.c && nat_lt (at_hand s).opcode waitcnt
 
 -- what is waited for
@@ -253,7 +253,7 @@ wait_effect opcode value source =
     if opcode == waitcnt then sum_effect (value + source) else plain_effect value false
 
 -- a wait, from the fourth clock on; its result is written a clock after its turn
-abbrev pub wait : (cog : ℕ) → State → (source : ℕ) → Course
+abbrev pub wait : (cog : ℕ) → PasmState → (source : ℕ) → Course
 wait cog s source =
     ask cog (s.clock + 4) (Wait (test_of (at_hand s).opcode (destination_value s) source))
     (λ turn. ends_after cog s (wait_effect (at_hand s).opcode (destination_value s) source) (turn.key.clock + 1))
@@ -261,7 +261,7 @@ wait cog s source =
 -- ---- one line for each kind
 
 -- Instructions of the hub read their source where they begin, all others 2 clocks later.
-abbrev pub does : Kind → (cog : ℕ) → State → Course
+abbrev pub does : InstructionKind → (cog : ℕ) → PasmState → Course
 does Skipped cog s = Go (passed s)
 does Halting cog s = halt s.clock (Opcode s.long)
 does OfHub cog s = sourced s.clock s (use_hub cog s)
@@ -269,7 +269,7 @@ does Waiting cog s = if is_port_wait s then halt s.clock Port else sourced (s.cl
 does Computing cog s = sourced (s.clock + 2) s (compute cog s)
 
 -- one instruction
-abbrev pub instruction : (cog : ℕ) → State → Course
+abbrev pub instruction : (cog : ℕ) → PasmState → Course
 instruction cog s = does (kind_of (at_hand s) s.c s.z) cog s
 
 -- ---- a life
@@ -279,7 +279,7 @@ pub data Outcome : Type 0 where
   -- this access is the first that has none, and this is its clock
   Asks : (clock : ℕ) (access : Access) → Outcome
   -- an instruction is done, and these turns are left for what comes after it
-  Goes : (state : State) (left : List Turn) → Outcome
+  Goes : (state : PasmState) (left : List Turn) → Outcome
   -- the life is over
   Ends : Outcome
 
@@ -303,7 +303,7 @@ after cog (suc n) o = step cog (after cog n o)
 
 -- what stands in the cog where its first instruction begins: the longs, and 0 in the last 16 registers
 -- and in the flags
-abbrev pub first_with : (longs : List ℕ) (par begin : ℕ) → State
+abbrev pub first_with : (longs : List ℕ) (par begin : ℕ) → PasmState
 first_with longs par begin = record {
   registers = longs ++ replicate 16 0;
   par = par;

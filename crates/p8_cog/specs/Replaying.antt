@@ -13,10 +13,10 @@ use Rattle.p8_access.specs.Lives.{Loaded, Begun, PasmBegun, SpinBegun, first_tur
 use Rattle.p8_instr.specs.declared.instruction.Instr.{Instr}
 use Rattle.p8_instr.specs.Instruction.{writes_result, is_immediate}
 use Rattle.p8_alu.specs.declared.effect.Effect.{Effect}
-use Rattle.p8_cog.specs.declared.kind.Kind.{Kind}
-use Rattle.p8_cog.specs.declared.kind.Kind.TheVariants.{Skipped, Halting, OfHub, Waiting, Computing}
+use Rattle.p8_cog.specs.declared.instruction_kind.InstructionKind.{InstructionKind}
+use Rattle.p8_cog.specs.declared.instruction_kind.InstructionKind.TheVariants.{Skipped, Halting, OfHub, Waiting, Computing}
 use Rattle.p8_cog.specs.declared.hub.Request.{Request}
-use Rattle.p8_cog.specs.declared.state.State.{State}
+use Rattle.p8_cog.specs.declared.state.PasmState.{PasmState}
 use Rattle.p8_cog.specs.Instructions.{cnt_register, ina_register, outa_register, dira_register, ctra_register, djnz, kind_of, source_access}
 use Rattle.p8_cog.specs.Replay.{Course, Ask, Go, End, ask, at_hand, destination_value, source_value, sourced_by, sourced, answered, test_of}
 use Rattle.p8_cog.specs.Replay.{wait_effect, effect, jumps, computed, compute, result_access, written_by, ends_after, hub_request, ask_hub, use_hub}
@@ -61,7 +61,7 @@ pub if-holds : (P : Course → Type 0) (b : Bool) (x y : Course) → P x → P y
 if-holds P true x y p q = p
 if-holds P false x y p q = q
 
-if-clock : (least : ℕ) (b : Bool) (x y : State) → least ≤ x.clock → least ≤ y.clock → least ≤ (if b then x else y).clock
+if-clock : (least : ℕ) (b : Bool) (x y : PasmState) → least ≤ x.clock → least ≤ y.clock → least ≤ (if b then x else y).clock
 if-clock least true x y p q = p
 if-clock least false x y p q = q
 
@@ -101,98 +101,98 @@ ask-orderly cog clock access go later rest =
 ask-short : (cog clock n : ℕ) (access : Access) (go : Turn → Course) → ((turn : Turn) → IsShort (go turn) n) → IsShort (ask cog clock access go) (suc n)
 ask-short cog clock n access go rest = λ turn. if-holds (λ c. IsShort c n) (is_last cog access) End (go turn) tt (rest turn)
 
-written-not_before : (found : Option Access) (cog clock least : ℕ) (next : State) → least ≤ clock → least ≤ next.clock →
+written-not_before : (found : Option Access) (cog clock least : ℕ) (next : PasmState) → least ≤ clock → least ≤ next.clock →
     IsNotBefore least (written_by found cog clock next)
 written-not_before None cog clock least next here there = there
 written-not_before (Some access) cog clock least next here there = here
 
-written-orderly : (i : Instr) (value cog clock : ℕ) (next : State) → clock + 1 ≤ next.clock → IsOrderly (written_by (result_access i value) cog clock next)
+written-orderly : (i : Instr) (value cog clock : ℕ) (next : PasmState) → clock + 1 ≤ next.clock → IsOrderly (written_by (result_access i value) cog clock next)
 written-orderly i value cog clock next later =
     result-holds (λ found. IsOrderly (written_by found cog clock next)) i value tt
     (ask-orderly cog clock (OutSet value) (λ turn. Go next) (λ turn on. omega (arith, on, later)) (λ turn. tt))
     (ask-orderly cog clock (DirSet value) (λ turn. Go next) (λ turn on. omega (arith, on, later)) (λ turn. tt))
     (λ turn. (λ on. tt, tt))
 
-written-paced : (found : Option Access) (cog clock begin : ℕ) (next : State) → begin + 4 ≤ next.clock → IsPaced begin (written_by found cog clock next)
+written-paced : (found : Option Access) (cog clock begin : ℕ) (next : PasmState) → begin + 4 ≤ next.clock → IsPaced begin (written_by found cog clock next)
 written-paced None cog clock begin next there = there
 written-paced (Some access) cog clock begin next there = tt
 
-written-short : (found : Option Access) (cog clock n : ℕ) (next : State) → IsShort (written_by found cog clock next) (suc n)
+written-short : (found : Option Access) (cog clock n : ℕ) (next : PasmState) → IsShort (written_by found cog clock next) (suc n)
 written-short None cog clock n next = tt
 written-short (Some access) cog clock n next = ask-short cog clock n access (λ turn. Go next) (λ turn. tt)
 
-ends-not_before : (cog : ℕ) (s : State) (e : Effect) (clock least : ℕ) → least ≤ clock → IsNotBefore least (ends_after cog s e clock)
+ends-not_before : (cog : ℕ) (s : PasmState) (e : Effect) (clock least : ℕ) → least ≤ clock → IsNotBefore least (ends_after cog s e clock)
 ends-not_before cog s e clock least here = written-not_before (result_access (at_hand s) e.result) cog clock least _ here (omega (arith, here))
 
-ends-orderly : (cog : ℕ) (s : State) (e : Effect) (clock : ℕ) → IsOrderly (ends_after cog s e clock)
+ends-orderly : (cog : ℕ) (s : PasmState) (e : Effect) (clock : ℕ) → IsOrderly (ends_after cog s e clock)
 ends-orderly cog s e clock = written-orderly (at_hand s) e.result cog clock _ (omega arith)
 
-ends-short : (cog : ℕ) (s : State) (e : Effect) (clock n : ℕ) → IsShort (ends_after cog s e clock) (suc n)
+ends-short : (cog : ℕ) (s : PasmState) (e : Effect) (clock n : ℕ) → IsShort (ends_after cog s e clock) (suc n)
 ends-short cog s e clock n = written-short (result_access (at_hand s) e.result) cog clock n _
 
 -- how an instruction goes on after an access of the hub, and after a wait
-abbrev pub behind_hub : (cog : ℕ) → State → Request → Turn → Course
+abbrev pub behind_hub : (cog : ℕ) → PasmState → Request → Turn → Course
 behind_hub cog s r turn = ends_after cog s (answered r.kept turn.answer) (turn.key.clock + 6)
 
-abbrev pub behind_wait : (cog : ℕ) → State → (source : ℕ) → Turn → Course
+abbrev pub behind_wait : (cog : ℕ) → PasmState → (source : ℕ) → Turn → Course
 behind_wait cog s source turn =
     ends_after cog s (wait_effect (at_hand s).opcode (destination_value s) source) (turn.key.clock + 1)
 
-hub-orderly : (cog : ℕ) (s : State) (r : Request) → IsOrderly (ask_hub cog s r)
+hub-orderly : (cog : ℕ) (s : PasmState) (r : Request) → IsOrderly (ask_hub cog s r)
 hub-orderly cog s r =
     ask-orderly cog (window_of cog (s.clock + 1)) r.access (behind_hub cog s r)
     (λ turn on. ends-not_before cog s (answered r.kept turn.answer) (turn.key.clock + 6) (turn.key.clock + 1) (omega arith))
     (λ turn. ends-orderly cog s (answered r.kept turn.answer) (turn.key.clock + 6))
 
-hub-short : (cog n : ℕ) (s : State) (r : Request) → IsShort (ask_hub cog s r) (suc (suc n))
+hub-short : (cog n : ℕ) (s : PasmState) (r : Request) → IsShort (ask_hub cog s r) (suc (suc n))
 hub-short cog n s r =
     ask-short cog (window_of cog (s.clock + 1)) (suc n) r.access (behind_hub cog s r)
     (λ turn. ends-short cog s (answered r.kept turn.answer) (turn.key.clock + 6) n)
 
-wait-orderly : (cog : ℕ) (s : State) (source : ℕ) → IsOrderly (wait cog s source)
+wait-orderly : (cog : ℕ) (s : PasmState) (source : ℕ) → IsOrderly (wait cog s source)
 wait-orderly cog s source =
     ask-orderly cog (s.clock + 4) (Wait (test_of (at_hand s).opcode (destination_value s) source)) (behind_wait cog s source)
     (λ turn on. ends-not_before cog s (wait_effect (at_hand s).opcode (destination_value s) source) (turn.key.clock + 1) (turn.key.clock + 1) (omega arith))
     (λ turn. ends-orderly cog s (wait_effect (at_hand s).opcode (destination_value s) source) (turn.key.clock + 1))
 
-wait-short : (cog n : ℕ) (s : State) (source : ℕ) → IsShort (wait cog s source) (suc (suc n))
+wait-short : (cog n : ℕ) (s : PasmState) (source : ℕ) → IsShort (wait cog s source) (suc (suc n))
 wait-short cog n s source =
     ask-short cog (s.clock + 4) (suc n) (Wait (test_of (at_hand s).opcode (destination_value s) source)) (behind_wait cog s source)
     (λ turn. ends-short cog s (wait_effect (at_hand s).opcode (destination_value s) source) (turn.key.clock + 1) n)
 
-computed-clock : (s : State) (source : ℕ) → s.clock + 4 ≤ (computed s source).clock
+computed-clock : (s : PasmState) (source : ℕ) → s.clock + 4 ≤ (computed s source).clock
 computed-clock s source =
     if-clock _ (nat_le djnz (at_hand s).opcode) _ _
     (if-clock _ (jumps (at_hand s).opcode (effect s source).result) _ _ (omega arith) (omega arith))
     (omega arith)
 
-compute-not_before : (cog least : ℕ) (s : State) (source : ℕ) → least ≤ s.clock + 3 → IsNotBefore least (compute cog s source)
+compute-not_before : (cog least : ℕ) (s : PasmState) (source : ℕ) → least ≤ s.clock + 3 → IsNotBefore least (compute cog s source)
 compute-not_before cog least s source here =
     written-not_before (result_access (at_hand s) (effect s source).result) cog (s.clock + 3) least (computed s source) here
     (omega (arith, here, computed-clock s source))
 
-compute-orderly : (cog : ℕ) (s : State) (source : ℕ) → IsOrderly (compute cog s source)
+compute-orderly : (cog : ℕ) (s : PasmState) (source : ℕ) → IsOrderly (compute cog s source)
 compute-orderly cog s source =
     written-orderly (at_hand s) (effect s source).result cog (s.clock + 3) (computed s source) (omega (arith, computed-clock s source))
 
-sourced-not_before : (found : Option Access) (clock least : ℕ) (s : State) (go : ℕ → Course) → least ≤ clock →
+sourced-not_before : (found : Option Access) (clock least : ℕ) (s : PasmState) (go : ℕ → Course) → least ≤ clock →
     ((value : ℕ) → IsNotBefore least (go value)) → IsNotBefore least (sourced_by found clock s go)
 sourced-not_before None clock least s go here rest = rest _
 sourced-not_before (Some access) clock least s go here rest = here
 
-sourced-orderly : (clock : ℕ) (s : State) (go : ℕ → Course) → ((value : ℕ) → IsNotBefore (clock + 1) (go value)) →
+sourced-orderly : (clock : ℕ) (s : PasmState) (go : ℕ → Course) → ((value : ℕ) → IsNotBefore (clock + 1) (go value)) →
     ((value : ℕ) → IsOrderly (go value)) → IsOrderly (sourced clock s go)
 sourced-orderly clock s go later rest =
     source-holds (λ found. IsOrderly (sourced_by found clock s go)) (at_hand s) (rest (source_value s))
     (λ turn. (λ on. subst (λ (k : ℕ). IsNotBefore (k + 1) (go (value_of turn.answer))) on (later (value_of turn.answer)), rest (value_of turn.answer)))
     (λ turn. (λ on. subst (λ (k : ℕ). IsNotBefore (k + 1) (go (value_of turn.answer))) on (later (value_of turn.answer)), rest (value_of turn.answer)))
 
-sourced-paced : (found : Option Access) (clock begin : ℕ) (s : State) (go : ℕ → Course) → ((value : ℕ) → IsPaced begin (go value)) →
+sourced-paced : (found : Option Access) (clock begin : ℕ) (s : PasmState) (go : ℕ → Course) → ((value : ℕ) → IsPaced begin (go value)) →
     IsPaced begin (sourced_by found clock s go)
 sourced-paced None clock begin s go rest = rest _
 sourced-paced (Some access) clock begin s go rest = tt
 
-sourced-short : (found : Option Access) (clock n : ℕ) (s : State) (go : ℕ → Course) → ((value k : ℕ) → IsShort (go value) (suc (suc k))) →
+sourced-short : (found : Option Access) (clock n : ℕ) (s : PasmState) (go : ℕ → Course) → ((value k : ℕ) → IsShort (go value) (suc (suc k))) →
     IsShort (sourced_by found clock s go) (suc (suc (suc n)))
 sourced-short None clock n s go rest = rest _ (suc n)
 sourced-short (Some access) clock n s go rest = λ turn. rest _ n
@@ -200,7 +200,7 @@ sourced-short (Some access) clock n s go rest = λ turn. rest _ n
 -- ---- each kind of instruction
 
 -- nothing comes before an instruction's begin
-does-not_before : (kind : Kind) (cog : ℕ) (s : State) → IsNotBefore s.clock (does kind cog s)
+does-not_before : (kind : InstructionKind) (cog : ℕ) (s : PasmState) → IsNotBefore s.clock (does kind cog s)
 does-not_before Skipped cog s = omega arith
 does-not_before Halting cog s = omega arith
 does-not_before OfHub cog s =
@@ -212,7 +212,7 @@ does-not_before Computing cog s =
     sourced-not_before (source_access (at_hand s)) (s.clock + 2) s.clock s (compute cog s) (omega arith)
     (λ value. compute-not_before cog s.clock s value (omega arith))
 
-does-orderly : (kind : Kind) (cog : ℕ) (s : State) → IsOrderly (does kind cog s)
+does-orderly : (kind : InstructionKind) (cog : ℕ) (s : PasmState) → IsOrderly (does kind cog s)
 does-orderly Skipped cog s = tt
 does-orderly Halting cog s = λ turn. (λ on. tt, tt)
 does-orderly OfHub cog s =
@@ -223,7 +223,7 @@ does-orderly Waiting cog s =
 does-orderly Computing cog s =
     sourced-orderly (s.clock + 2) s (compute cog s) (λ value. compute-not_before cog _ s value (omega arith)) (λ value. compute-orderly cog s value)
 
-does-paced : (kind : Kind) (cog : ℕ) (s : State) → IsPaced s.clock (does kind cog s)
+does-paced : (kind : InstructionKind) (cog : ℕ) (s : PasmState) → IsPaced s.clock (does kind cog s)
 does-paced Skipped cog s = omega arith
 does-paced Halting cog s = tt
 does-paced OfHub cog s = sourced-paced (source_access (at_hand s)) _ s.clock s (use_hub cog s) (λ value. tt)
@@ -234,7 +234,7 @@ does-paced Computing cog s =
     sourced-paced (source_access (at_hand s)) _ s.clock s (compute cog s)
     (λ value. written-paced (result_access (at_hand s) (effect s value).result) cog (s.clock + 3) s.clock (computed s value) (computed-clock s value))
 
-does-short : (kind : Kind) (cog : ℕ) (s : State) → IsShort (does kind cog s) (suc (suc (suc zero)))
+does-short : (kind : InstructionKind) (cog : ℕ) (s : PasmState) → IsShort (does kind cog s) (suc (suc (suc zero)))
 does-short Skipped cog s = tt
 does-short Halting cog s = λ turn. tt
 does-short OfHub cog s =
@@ -295,7 +295,7 @@ played-one n (Ask c a go) turn left clock access short rest asks = rest (go turn
 played-one n (Go s) turn left clock access short rest asks = let e : Goes s (turn ∷ left) ≡ Asks clock access = asks in cc
 played-one n End turn left clock access short rest asks = let e : Ends ≡ Asks clock access = asks in cc
 
-pub third-last : (cog : ℕ) (s : State) (first second third : Turn) (clock : ℕ) (access : Access) →
+pub third-last : (cog : ℕ) (s : PasmState) (first second third : Turn) (clock : ℕ) (access : Access) →
     played (instruction cog s) (first ∷ second ∷ third ∷ []) ≡ Asks clock access → ⊥
 third-last cog s first second third clock access asks =
     played-one (suc (suc zero)) (instruction cog s) first (second ∷ third ∷ []) clock access (does-short (kind_of (at_hand s) s.c s.z) cog s)
@@ -305,33 +305,33 @@ third-last cog s first second third clock access asks =
     asks
 
 -- an instruction that is done at once took 4 clocks at least, and isn't the end of the life
-paced-in : (begin : ℕ) (course : Course) (next : State) → IsPaced begin course → played course [] ≡ Goes next [] → begin + 4 ≤ next.clock
+paced-in : (begin : ℕ) (course : Course) (next : PasmState) → IsPaced begin course → played course [] ≡ Goes next [] → begin + 4 ≤ next.clock
 paced-in begin (Ask c a go) next paced e = absurd (let x : Asks c a ≡ Goes next [] = e in cc)
 paced-in begin (Go s) next paced e =
     let same : s ≡ next = (let x : Goes s [] ≡ Goes next [] = e in cc) in
-    subst (λ (t : State). begin + 4 ≤ t.clock) same paced
+    subst (λ (t : PasmState). begin + 4 ≤ t.clock) same paced
 paced-in begin End next paced e = absurd paced
 
-pub paced : (cog : ℕ) (s next : State) → played (instruction cog s) [] ≡ Goes next [] → s.clock + 4 ≤ next.clock
+pub paced : (cog : ℕ) (s next : PasmState) → played (instruction cog s) [] ≡ Goes next [] → s.clock + 4 ≤ next.clock
 paced cog s next e = paced-in s.clock (instruction cog s) next (does-paced (kind_of (at_hand s) s.c s.z) cog s) e
 
 -- what a turn leads to is later than it
-pub came : (cog : ℕ) (s : State) (ts : List Turn) (turn : Turn) → Comes (played (instruction cog s) ts) turn →
+pub came : (cog : ℕ) (s : PasmState) (ts : List Turn) (turn : Turn) → Comes (played (instruction cog s) ts) turn →
     IsFrom (turn.key.clock + 1) (played (instruction cog s) (ts ++ turn ∷ []))
 came cog s ts turn comes =
     played-then (instruction cog s) ts turn comes.0 turn.access (does-orderly (kind_of (at_hand s) s.c s.z) cog s) comes.2 comes.1
 
 -- what is done has no turn left
-pub whole-in : (clock : ℕ) (o : Outcome) (next : State) → IsFrom clock o → o ≡ Goes next (left_of o) → (o ≡ Goes next []) × (clock ≤ next.clock)
+pub whole-in : (clock : ℕ) (o : Outcome) (next : PasmState) → IsFrom clock o → o ≡ Goes next (left_of o) → (o ≡ Goes next []) × (clock ≤ next.clock)
 whole-in clock (Goes s []) next from e =
     let same : s ≡ next = (let x : Goes s [] ≡ Goes next [] = e in cc) in
-    (e, subst (λ (t : State). clock ≤ t.clock) same from)
+    (e, subst (λ (t : PasmState). clock ≤ t.clock) same from)
 whole-in clock (Goes s (turn ∷ left)) next from e = absurd from
 whole-in clock (Asks c a) next from e = absurd (let x : Asks c a ≡ Goes next [] = e in cc)
 whole-in clock Ends next from e = absurd (let x : Ends ≡ Goes next [] = e in cc)
 
 -- what is asked where an instruction begins isn't before that
-pub begin-asks : (cog clock : ℕ) (s : State) (access : Access) → played (instruction cog s) [] ≡ Asks clock access → s.clock ≤ clock
+pub begin-asks : (cog clock : ℕ) (s : PasmState) (access : Access) → played (instruction cog s) [] ≡ Asks clock access → s.clock ≤ clock
 begin-asks cog clock s access e =
     subst (IsFrom s.clock) e (played-from (instruction cog s) s.clock (does-not_before (kind_of (at_hand s) s.c s.z) cog s))
 
@@ -417,7 +417,7 @@ loading-orderly l (suc n) longs room = λ turn.
 -- ---- a life
 
 -- where a turn comes, it is left for the instruction that has been reached
-pub turn-kept : (k : ℕ) (loaded : Loaded) (ts : List Turn) (turn : Turn) (s : State) (left : List Turn) → replayed k loaded ts ≡ Goes s left →
+pub turn-kept : (k : ℕ) (loaded : Loaded) (ts : List Turn) (turn : Turn) (s : PasmState) (left : List Turn) → replayed k loaded ts ≡ Goes s left →
     replayed k loaded (ts ++ turn ∷ []) ≡ Goes s (left ++ turn ∷ [])
 turn-kept k loaded ts turn s left reached =
     let moves : Moves (replayed k loaded ts) = subst Moves (sym reached) tt in
@@ -427,7 +427,7 @@ turn-kept k loaded ts turn s left reached =
     ∙ ap (λ (o : Outcome). more o (turn ∷ [])) reached
 
 -- and is taken by that instruction
-pub turn-taken : (k : ℕ) (loaded : Loaded) (ts : List Turn) (turn : Turn) (s : State) (left : List Turn) → replayed k loaded ts ≡ Goes s left →
+pub turn-taken : (k : ℕ) (loaded : Loaded) (ts : List Turn) (turn : Turn) (s : PasmState) (left : List Turn) → replayed k loaded ts ≡ Goes s left →
     replayed (k + 1) loaded (ts ++ turn ∷ []) ≡ played (instruction loaded.cog s) (left ++ turn ∷ [])
 turn-taken k loaded ts turn s left reached =
     after-one loaded.cog k _ ∙ ap (step loaded.cog) (turn-kept k loaded ts turn s left reached)
@@ -471,7 +471,8 @@ asked-first (SpinBegun entered) c a asked = absurd asked
 
 -- an instruction that has been reached and asks this
 abbrev pub Asker : ℕ → Outcome → ℕ → Access → Type 0
-Asker cog o clock access = (k : ℕ) × (at : State) × (left : List Turn) × (after cog k o ≡ Goes at left) × (played (instruction cog at) left ≡ Asks clock access)
+Asker cog o clock access =
+    (k : ℕ) × (at : PasmState) × (left : List Turn) × (after cog k o ≡ Goes at left) × (played (instruction cog at) left ≡ Asks clock access)
 
 asker-step : (cog n : ℕ) (from : Outcome) (clock : ℕ) (access : Access) (o : Outcome) →
     (after cog n from ≡ Asks clock access → (from ≡ Asks clock access) ⊎ Asker cog from clock access) → after cog n from ≡ o →

@@ -8,23 +8,23 @@ use Rattle.p8_access.specs.Lives.{IsMade, IsOnTime}
 use Rattle.p8_instr.specs.declared.instruction.Instr.{Instr}
 use Rattle.p8_instr.specs.Instruction.{writes_z, writes_c}
 use Rattle.p8_alu.specs.declared.effect.Effect.{Effect}
-use Rattle.p8_cog.specs.declared.kind.Kind.{Kind}
-use Rattle.p8_cog.specs.declared.kind.Kind.TheVariants.{Skipped, Halting, OfHub, Waiting, Computing}
-use Rattle.p8_cog.specs.declared.state.State.{State}
+use Rattle.p8_cog.specs.declared.instruction_kind.InstructionKind.{InstructionKind}
+use Rattle.p8_cog.specs.declared.instruction_kind.InstructionKind.TheVariants.{Skipped, Halting, OfHub, Waiting, Computing}
+use Rattle.p8_cog.specs.declared.state.PasmState.{PasmState}
 use Rattle.p8_cog.specs.declared.ending.Ending.{Ending}
 use Rattle.p8_cog.specs.declared.ending.Ending.TheVariants.{Ended, Whole, Half}
 use Rattle.p8_cog.specs.declared.progress.Had.{Had}
 use Rattle.p8_cog.specs.declared.progress.Had.TheVariants.{Nothing, One, Two}
 use Rattle.p8_cog.specs.declared.progress.Progress.{Progress}
-use Rattle.p8_cog.specs.declared.stage.Stage.{Stage}
-use Rattle.p8_cog.specs.declared.stage.Stage.TheVariants.{Loading, Running, Over}
+use Rattle.p8_cog.specs.declared.stage.PasmStage.{PasmStage}
+use Rattle.p8_cog.specs.declared.stage.PasmStage.TheVariants.{Loading, Running, Over}
 use Rattle.p8_cog.specs.Instructions.{kind_of, source_access}
 use Rattle.p8_cog.specs.Replay.{at_hand, destination_value, source_value, hub_request, instruction, played, Outcome, Asks, Goes, Ends, step, after}
 use Rattle.p8_cog.specs.Replay.{first_with, BeginsAt}
 use Rattle.p8_cog.specs.Standing.{turns_of, running_at, standing_at, clock_of}
 
 -- what the processor computes has an opcode from 8 to 59
-abbrev pub IsComputed : Kind → ℕ → Type 0
+abbrev pub IsComputed : InstructionKind → ℕ → Type 0
 IsComputed Computing opcode = (8 ≤ opcode) × (opcode ≤ 59)
 IsComputed Skipped opcode = Unit {0}
 IsComputed Halting opcode = Unit {0}
@@ -32,7 +32,7 @@ IsComputed OfHub opcode = Unit {0}
 IsComputed Waiting opcode = Unit {0}
 
 -- the registers as they are, with the flags and the rest of where the next instruction begins
-abbrev pub left_with : State → Instr → Effect → (address long clock : ℕ) → State
+abbrev pub left_with : PasmState → Instr → Effect → (address long clock : ℕ) → PasmState
 left_with s i e address long clock = record s {
   at = address;
   long = long;
@@ -45,7 +45,7 @@ left_with s i e address long clock = record s {
 
 -- the instruction at hand is the hub's, no access reads its source, and this is its result where the answer holds
 -- no number
-abbrev pub IsAtHub : State → (kept : ℕ) → Type 0
+abbrev pub IsAtHub : PasmState → (kept : ℕ) → Type 0
 IsAtHub s kept =
     (kind_of (at_hand s) s.c s.z ≡ OfHub) × (source_access (at_hand s) ≡ None) × (kept ≡ (hub_request (at_hand s) (destination_value s) (source_value s)).kept)
 
@@ -56,13 +56,13 @@ left_of (Asks clock access) = []
 left_of Ends = []
 
 -- an instruction that comes to this outcome ends so, and where it is done leaves this state
-abbrev pub ComesTo : Outcome → Ending → State → Type 0
+abbrev pub ComesTo : Outcome → Ending → PasmState → Type 0
 ComesTo o Ended new = o ≡ Ends
 ComesTo o Whole new = o ≡ Goes new (left_of o)
 ComesTo o (Half clock access) new = o ≡ Asks clock access
 
 -- what isn't done changes nothing
-abbrev pub Keeps : Ending → (old new : State) → Type 0
+abbrev pub Keeps : Ending → (old new : PasmState) → Type 0
 Keeps Whole old new = Unit {0}
 Keeps Ended old new = new ≡ old
 Keeps (Half clock access) old new = new ≡ old
@@ -131,16 +131,16 @@ asked_of (Goes s left) = None
 asked_of Ends = None
 
 -- what is asked where a life stands
-unfoldable pub asked_now : (cog code : ℕ) → Stage → Progress → Option (ℕ × Access)
+unfoldable pub asked_now : (cog code : ℕ) → PasmStage → Progress → Option (ℕ × Access)
 asked_now cog code stage p = asked_of (step cog (standing_at stage code p))
 
 -- what was announced: what is asked there, if that was told
-abbrev pub announced_at : (asking : Bool) (cog code : ℕ) → Stage → Progress → Option (ℕ × Access)
+abbrev pub announced_at : (asking : Bool) (cog code : ℕ) → PasmStage → Progress → Option (ℕ × Access)
 announced_at true cog code stage p = asked_now cog code stage p
 announced_at false cog code stage p = None
 
 -- what was announced is what comes next
-abbrev pub Announces : (cog code : ℕ) → Stage → Progress → Option (ℕ × Access) → Type 0
+abbrev pub Announces : (cog code : ℕ) → PasmStage → Progress → Option (ℕ × Access) → Type 0
 Announces cog code stage p announced =
     (clock : ℕ) (access : Access) → announced ≡ Some (clock, access) →
     (step cog (standing_at stage code p) ≡ Asks clock access) × (clock_of p ≤ clock) × (clock + 1 < 2 ^ 62)
@@ -170,7 +170,7 @@ IsTold Quiet = Unit {0}
 IsTold (More bound) = ⊥
 
 -- how the value of a read brings a load on: the next long is to be read, or the first instruction begins
-abbrev pub Loads : State → (long : ℕ) → Progress → Stage → Type 0
+abbrev pub Loads : PasmState → (long : ℕ) → Progress → PasmStage → Type 0
 Loads old long new Loading =
     (new.begun.at ≡ old.at + 1) × (new.begun.at < 496) × (new.begun.clock ≡ old.clock + 16) × (new.begun.par ≡ old.par) ×
     (take (old.at + 1) new.begun.registers ≡ take old.at old.registers ++ long ∷ []) × (new.had ≡ Nothing)

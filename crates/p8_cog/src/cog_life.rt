@@ -9,7 +9,7 @@ ghost use Rattle.p8_cog.specs.Lives.{asks, begins, begun_by, IsStartable};
 ghost use Rattle.p8_cog.specs.Kinds.{number_of, access_of, fact_of};
 ghost use Rattle.p8_cog.specs.Laws.{one-asked, asked-first, asked-later, paced};
 
-use crate::life_kind::Kind;
+use crate::life_kind::LifeKind;
 use crate::pasm::Cog;
 use p8_access::{Life, Next, Origin, Ram, Turn, window};
 use p8_bcog::SpinCog;
@@ -22,7 +22,7 @@ use std::alloc::Global;
 #[derive(Drop)]
 pub struct CogLife {
     /// Which of the two runs.
-    kind: Kind,
+    kind: LifeKind,
     pasm: Cog,
     spin: SpinCog,
 }
@@ -50,7 +50,7 @@ impl CogLife {
     {
         let first = window(cog, 0);
         Ok(CogLife {
-            kind: Kind::Pasm,
+            kind: LifeKind::Pasm,
             pasm: Cog::start(alloc, 0, 0, cog, first)?,
             spin: SpinCog::start_in(alloc, memory.share(), stack, NOTHING, cog, first)?,
         })
@@ -73,11 +73,11 @@ impl CogLife {
     {
         match origin {
             Origin::Pasm { code, par } => {
-                self.kind = Kind::Pasm;
+                self.kind = LifeKind::Pasm;
                 self.pasm.restart(code, par, cog, first);
             }
             Origin::Spin { .. } => {
-                self.kind = Kind::Spin;
+                self.kind = LifeKind::Spin;
                 self.spin.restart(memory.share(), origin, cog, first);
             }
         }
@@ -93,8 +93,8 @@ impl CogLife {
         ensures none { ⟦<CogLife as Life>⟧.announced self.now ≡ None → result ≡ None }
     {
         match self.kind {
-            Kind::Pasm => self.pasm.counter(memory),
-            Kind::Spin => self.spin.counter(),
+            LifeKind::Pasm => self.pasm.counter(memory),
+            LifeKind::Spin => self.spin.counter(),
         }
     }
 }
@@ -125,16 +125,16 @@ impl Life for CogLife {
     #[inline(always)]
     fn run_to_access(&mut self, until: u64, budget: u32) -> Next {
         match self.kind {
-            Kind::Pasm => self.pasm.run_to_access(until, budget),
-            Kind::Spin => self.spin.run_to_access(until, budget),
+            LifeKind::Pasm => self.pasm.run_to_access(until, budget),
+            LifeKind::Spin => self.spin.run_to_access(until, budget),
         }
     }
 
     #[inline(always)]
     fn take_answer(&mut self, turn: &Turn) {
         match self.kind {
-            Kind::Pasm => self.pasm.take_answer(turn),
-            Kind::Spin => self.spin.take_answer(turn),
+            LifeKind::Pasm => self.pasm.take_answer(turn),
+            LifeKind::Spin => self.spin.take_answer(turn),
         }
     }
 

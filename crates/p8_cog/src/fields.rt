@@ -10,8 +10,8 @@ ghost use Rattle.p8_cog.specs.Instructions.{executed_kind, source_access};
 ghost use Rattle.p8_cog.specs.Replay.{at_hand, result_access};
 ghost use Rattle.p8_cog.specs.Stops.{IsComputed};
 
-use crate::kind::{Kind, OUTA, PAR, other_kind, source_access};
-use crate::state::State;
+use crate::instruction_kind::{InstructionKind, OUTA, PAR, other_kind, source_access};
+use crate::state::PasmState;
 use p8_instr::{ALWAYS, decode};
 
 /// The least long with an opcode that computes, 8.
@@ -21,7 +21,7 @@ const BEYOND_COMPUTED: u32 = 0xF000_0000;
 /// The upper 23 bits of JMP to a number, which always executes and writes nothing.
 const JUMP: u32 = 0x5C7C_0000 >> 9;
 
-impl State {
+impl PasmState {
     /// The opcode.
     #[inline(always)]
     pub fn opcode(&self) -> u8
@@ -122,14 +122,14 @@ impl State {
     /// The long itself is compared: the compiler then knows the opcode's range where it is taken out, and a jump table needs no
     /// test of its own.
     #[inline(always)]
-    pub fn kind(&self) -> Kind
+    pub fn kind(&self) -> InstructionKind
         ensures kind { result ≡ executed_kind (at_hand self.now).opcode }
         ensures computed { IsComputed result (at_hand self.now).opcode }
     {
         if self.long < COMPUTED || self.long >= BEYOND_COMPUTED {
             other_kind(self.opcode())
         } else {
-            Kind::Computing
+            InstructionKind::Computing
         }
     }
 

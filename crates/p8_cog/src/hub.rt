@@ -5,7 +5,7 @@ ghost use Rattle.p8_access.specs.Lives.{IsMade, is_last};
 ghost use Rattle.p8_access.specs.Proper.{IsAligned, IsReduced, bytes_in, value_of};
 ghost use Rattle.p8_cog.specs.Replay.{answered, hub_address, read_access, mode_access, start_access, move_request, operation_request, hub_request};
 
-use crate::kind::HUBOP;
+use crate::instruction_kind::HUBOP;
 use p8_access::{Access, Answer, Origin, Reason, Width};
 use p8_alu::Effect;
 use p8_instr::Instr;

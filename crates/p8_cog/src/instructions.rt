@@ -4,8 +4,8 @@ ghost use Rattle.p8_access.specs.Lives.{IsMade};
 ghost use Rattle.p8_access.specs.Windows.{window_of};
 ghost use Rattle.p8_cog.specs.Instructions.{source_access};
 ghost use Rattle.p8_cog.specs.declared.ending.Ending.TheVariants.{Half};
-ghost use Rattle.p8_cog.specs.declared.kind.Kind.TheVariants.{Computing, OfHub, Waiting};
-ghost use Rattle.p8_cog.specs.declared.state.State.{State};
+ghost use Rattle.p8_cog.specs.declared.instruction_kind.InstructionKind.TheVariants.{Computing, OfHub, Waiting};
+ghost use Rattle.p8_cog.specs.declared.state.PasmState.{PasmState};
 ghost use Rattle.p8_cog.specs.Replay.{at_hand, source_value, destination_value, effect, fetched_before, fetched_after, next_of, computed, compute};
 ghost use Rattle.p8_cog.specs.Replay.{register_access, result_access, written_by, answered, ends_after, use_hub, is_port_wait, test_of, wait_effect};
 ghost use Rattle.p8_cog.specs.Replay.{wait, halt, does, instruction, hub_request, played, Goes, Asks};
@@ -13,10 +13,10 @@ ghost use Rattle.p8_cog.specs.Stops.{ComesTo, Keeps, IsMadeIn, IsMadeIf, IsAtHub
 
 use crate::ending::Ending;
 use crate::hub::{Request, answered, hub_request, is_last, plain_effect};
-use crate::kind::{
-    CTRA, DIRA, DJNZ, JMPRET, Kind, OUTA, TJNZ, TJZ, WAITCNT, WAITPEQ, WAITPNE, kind_of,
+use crate::instruction_kind::{
+    CTRA, DIRA, DJNZ, InstructionKind, JMPRET, OUTA, TJNZ, TJZ, WAITCNT, WAITPEQ, WAITPNE, kind_of,
 };
-use crate::state::State;
+use crate::state::PasmState;
 use p8_access::{Access, Answer, Reason, Test, Turn, window};
 use p8_alu::Effect;
 use p8_instr::{Instr, decode};
@@ -93,11 +93,11 @@ fn wait_effect(opcode: u8, value: u32, source: u32) -> Effect
     }
 }
 
-impl State {
+impl PasmState {
     /// How an instruction stands at the write of its result: it is whole where that may be done.
     #[inline(always)]
     fn written(&self, cog: u8, value: u32, clock: u64, had: &[Turn]) -> Ending
-        ensures comes { (next : State) → ComesTo (played (written_by (result_access (at_hand self.now) value) cog clock next) had.now) result next }
+        ensures comes { (next : PasmState) → ComesTo (played (written_by (result_access (at_hand self.now) value) cog clock next) had.now) result next }
         ensures made { IsMadeIn result }
     {
         match result_access(decode(self.long), value) {
@@ -455,14 +455,14 @@ impl State {
         ensures clock { self.new.clock < 2 ^ 62 + 2 ^ 10 }
     {
         match kind_of(decode(self.long), self.c, self.z) {
-            Kind::Skipped => {
+            InstructionKind::Skipped => {
                 self.pass();
                 Ending::Whole
             }
-            Kind::Computing => self.begin_computing(cog, had),
-            Kind::OfHub => self.begin_hub(cog, had),
-            Kind::Waiting => self.begin_wait(cog, had),
-            Kind::Halting => self.halted(Reason::Opcode(self.long), had),
+            InstructionKind::Computing => self.begin_computing(cog, had),
+            InstructionKind::OfHub => self.begin_hub(cog, had),
+            InstructionKind::Waiting => self.begin_wait(cog, had),
+            InstructionKind::Halting => self.halted(Reason::Opcode(self.long), had),
         }
     }
 
@@ -549,8 +549,11 @@ impl State {
         ensures made { IfSome result (λ r. IsMade r.access) }
     {
         match kind_of(decode(self.long), self.c, self.z) {
-            Kind::OfHub => self.request_of(),
-            Kind::Skipped | Kind::Computing | Kind::Waiting | Kind::Halting => None,
+            InstructionKind::OfHub => self.request_of(),
+            InstructionKind::Skipped
+            | InstructionKind::Computing
+            | InstructionKind::Waiting
+            | InstructionKind::Halting => None,
         }
     }
 
@@ -625,8 +628,11 @@ impl State {
             return true;
         }
         match self.kind() {
-            Kind::Computing => self.compute_apart(),
-            Kind::OfHub | Kind::Waiting | Kind::Halting | Kind::Skipped => false,
+            InstructionKind::Computing => self.compute_apart(),
+            InstructionKind::OfHub
+            | InstructionKind::Waiting
+            | InstructionKind::Halting
+            | InstructionKind::Skipped => false,
         }
     }
 }

@@ -2,7 +2,7 @@
 
 /// What a cog runs.
 #[derive(Clone, Copy)]
-pub enum Kind {
+pub enum LifeKind {
     /// Instructions of PASM.
     Pasm,
     /// Bytecodes of Spin.

@@ -6,7 +6,7 @@ ghost use Rattle.p8_access.specs.declared.order.Turn.{Turn};
 ghost use Rattle.p8_access.specs.Lives.{Begun, PasmBegun};
 ghost use Rattle.p8_bcog.specs.Counters.{IsAnnouncing};
 ghost use Rattle.p8_cog.specs.Counters.{IsCounterOf};
-ghost use Rattle.p8_cog.specs.declared.stage.Stage.TheVariants.{Loading};
+ghost use Rattle.p8_cog.specs.declared.stage.PasmStage.TheVariants.{Loading};
 ghost use Rattle.p8_cog.specs.Replay.{IsAsked, Begins, step};
 ghost use Rattle.p8_cog.specs.Standing.{StandsFor, clock_of, standing_at};
 ghost use Rattle.p8_cog.specs.Stops.{Announces, IsAtHub, IsHalf, IsInLoad, announced_at, is_access, is_asking};
@@ -16,8 +16,8 @@ use crate::counters::loaded_from;
 use crate::ending::Ending;
 use crate::hub::value_in;
 use crate::progress::{Had, Progress};
-use crate::stage::Stage;
-use crate::state::State;
+use crate::stage::PasmStage;
+use crate::state::PasmState;
 use p8_access::{Life, Next, Ram, Turn};
 use p8_words::NoMemory;
 use std::alloc::Global;
@@ -33,7 +33,7 @@ pub struct Cog {
     code: u16,
     /// Its own number.
     cog: u8,
-    stage: Stage,
+    stage: PasmStage,
     /// How many instructions it has done since its start.
     done: u64,
     /// Whether the access that it asks next is announced and has had no turn yet.
@@ -87,12 +87,12 @@ impl Cog {
     {
         Ok(Cog {
             state: Progress {
-                begun: State::unloaded(alloc, par, load)?,
+                begun: PasmState::unloaded(alloc, par, load)?,
                 had: Had::Nothing,
             },
             code,
             cog,
-            stage: Stage::Loading,
+            stage: PasmStage::Loading,
             done: 0,
             asking: false,
             kept: None,
@@ -122,7 +122,7 @@ impl Cog {
         self.state.begun.unload(par, load);
         self.code = code;
         self.cog = cog;
-        self.stage = Stage::Loading;
+        self.stage = PasmStage::Loading;
         self.done = 0;
     }
 
@@ -138,11 +138,11 @@ impl Cog {
             return None;
         }
         match self.stage {
-            Stage::Running => {
+            PasmStage::Running => {
                 let begun = &self.state.begun;
                 loaded_from(memory, self.code, begun.at, begun.long)
             }
-            Stage::Loading | Stage::Over => None,
+            PasmStage::Loading | PasmStage::Over => None,
         }
     }
 }
@@ -175,19 +175,19 @@ impl Life for Cog {
         self.asking = false;
         self.kept = None;
         match self.stage {
-            Stage::Loading => {
+            PasmStage::Loading => {
                 let next = self.state.next_read(self.code, until);
                 self.asking = is_access(next);
                 next
             }
-            Stage::Running => {
+            PasmStage::Running => {
                 let ran = self.state.next_below(self.cog, until, budget);
                 self.done += u64::from(ran.done);
                 self.kept = ran.kept;
                 self.asking = is_access(ran.next);
                 ran.next
             }
-            Stage::Over => Next::Quiet,
+            PasmStage::Over => Next::Quiet,
         }
     }
 
@@ -197,16 +197,16 @@ impl Life for Cog {
         self.asking = false;
         self.kept = None;
         match self.stage {
-            Stage::Loading => self.stage = self.state.take_long(value_in(turn.answer)),
-            Stage::Running => match self.state.take(self.cog, kept, turn) {
+            PasmStage::Loading => self.stage = self.state.take_long(value_in(turn.answer)),
+            PasmStage::Running => match self.state.take(self.cog, kept, turn) {
                 Ending::Ended => {
-                    self.stage = Stage::Over;
+                    self.stage = PasmStage::Over;
                     self.done += 1;
                 }
                 Ending::Whole => self.done += 1,
                 Ending::Half { .. } => {}
             },
-            Stage::Over => unreachable!(),
+            PasmStage::Over => unreachable!(),
         }
     }
 

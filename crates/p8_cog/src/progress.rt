@@ -3,15 +3,15 @@ ghost use Rattle.std.specs.Prelude.{ℕ, nat_lt, if◌then◌else◌, ◌≡◌,
 ghost use Rattle.p8_access.specs.declared.lives.Next.TheVariants.{At, Quiet};
 ghost use Rattle.p8_access.specs.Lives.{IsMadeNext};
 ghost use Rattle.p8_cog.specs.declared.progress.Had.TheVariants.{Nothing, One, Two};
-ghost use Rattle.p8_cog.specs.declared.stage.Stage.TheVariants.{Loading};
+ghost use Rattle.p8_cog.specs.declared.stage.PasmStage.TheVariants.{Loading};
 ghost use Rattle.p8_cog.specs.Replay.{Goes, instruction, played, step};
 ghost use Rattle.p8_cog.specs.Standing.{turns_of, running_at, standing_at, clock_in, clock_of};
 ghost use Rattle.p8_cog.specs.Stops.{latest, is_asking, is_half, IsAtHub, IsHalf, IsInLoad, IsTold, Comes, Stops, Leads, IsSpent, Loads, Takes};
 
 use crate::ending::Ending;
 use crate::registers::LOADED_LONGS;
-use crate::stage::Stage;
-use crate::state::State;
+use crate::stage::PasmStage;
+use crate::state::PasmState;
 use p8_access::{Access, Next, Turn, Width, window};
 
 /// The turns that the instruction at hand has had, the oldest first.
@@ -28,14 +28,14 @@ pub enum Had {
 /// What stands in a cog where the instruction at hand began, and the turns that this instruction has had.
 #[derive(Drop)]
 pub struct Progress {
-    pub begun: State,
+    pub begun: PasmState,
     /// There are some only where the instruction has a further access.
     pub had: Had,
 }
 
 /// What an instruction tells where it begins.
 #[derive(Clone, Copy)]
-struct Told {
+struct InstructionStart {
     next: Next,
     /// As in `Ran`.
     kept: Option<u32>,
@@ -66,7 +66,7 @@ fn below(clock: u64, access: Access, until: u64) -> Next
 
 /// Tells the first access below a clock of an instruction that asks where it begins.
 #[inline(never)]
-fn other_below(state: &mut State, cog: u8, until: u64) -> Next
+fn other_below(state: &mut PasmState, cog: u8, until: u64) -> Next
     requires at { state.old.at < 512 }
     requires cog { cog < 8 }
     requires clock { state.old.clock + 1 < 2 ^ 62 }
@@ -85,7 +85,7 @@ fn other_below(state: &mut State, cog: u8, until: u64) -> Next
 /// Tells the first access below a clock of an instruction of the hub whose source no access reads, and the result that is
 /// known by then.
 #[inline(always)]
-fn request_below(state: &State, cog: u8, until: u64) -> Option<Told>
+fn request_below(state: &PasmState, cog: u8, until: u64) -> Option<InstructionStart>
     requires cog { cog < 8 }
     requires clock { state.now.clock + 1 < 2 ^ 62 }
     ensures stops { IfSome result (λ told. Stops cog (Goes state.now []) state.now.clock until told.next) }
@@ -95,7 +95,7 @@ fn request_below(state: &State, cog: u8, until: u64) -> Option<Told>
 {
     match state.request() {
         None => None,
-        Some(request) => Some(Told {
+        Some(request) => Some(InstructionStart {
             next: below(window(cog, state.clock + 1), request.access, until),
             kept: Some(request.kept),
         }),
@@ -104,7 +104,7 @@ fn request_below(state: &State, cog: u8, until: u64) -> Option<Told>
 
 /// Tells the first access below a clock of an instruction that asks where it begins, and the result that is known by then.
 #[inline(always)]
-fn first_below(state: &mut State, cog: u8, until: u64) -> Told
+fn first_below(state: &mut PasmState, cog: u8, until: u64) -> InstructionStart
     requires at { state.old.at < 512 }
     requires cog { cog < 8 }
     requires clock { state.old.clock + 1 < 2 ^ 62 }
@@ -117,7 +117,7 @@ fn first_below(state: &mut State, cog: u8, until: u64) -> Told
 {
     match request_below(state, cog, until) {
         Some(told) => told,
-        None => Told {
+        None => InstructionStart {
             next: other_below(state, cog, until),
             kept: None,
         },
@@ -130,7 +130,7 @@ fn first_below(state: &mut State, cog: u8, until: u64) -> Told
 /// takes a register of the processor from it. What is left is what it counts: to count one thing and give back
 /// another takes a step more of each instruction.
 #[inline(never)]
-fn compute_below(state: &mut State, until: u64, budget: u32) -> u32
+fn compute_below(state: &mut PasmState, until: u64, budget: u32) -> u32
     requires at { state.old.at < 512 }
     requires clock { state.old.clock < 2 ^ 62 + 2 ^ 10 }
     requires until { until < 2 ^ 62 }
@@ -160,7 +160,7 @@ fn compute_below(state: &mut State, until: u64, budget: u32) -> u32
 /// A jump is what most often stands behind an access. The compiler knows it here, so it takes a tenth of what a call of
 /// `compute_below` does.
 #[inline(always)]
-fn jump_below(state: &mut State, until: u64, budget: u32) -> u32
+fn jump_below(state: &mut PasmState, until: u64, budget: u32) -> u32
     requires at { state.old.at < 512 }
     requires clock { state.old.clock < 2 ^ 62 + 2 ^ 10 }
     requires until { until < 2 ^ 62 }
@@ -182,7 +182,7 @@ fn jump_below(state: &mut State, until: u64, budget: u32) -> u32
 
 /// Does instructions up to one that asks, within a budget and below a clock, and tells why it stopped.
 #[inline(always)]
-fn run_on(state: &mut State, cog: u8, until: u64, budget: u32) -> Ran
+fn run_on(state: &mut PasmState, cog: u8, until: u64, budget: u32) -> Ran
     requires at { state.old.at < 512 }
     requires cog { cog < 8 }
     requires clock { state.old.clock < 2 ^ 62 + 2 ^ 10 }
@@ -206,7 +206,7 @@ fn run_on(state: &mut State, cog: u8, until: u64, budget: u32) -> Ran
         return Ran { done, next, kept };
     }
     if left > 0 {
-        let Told { next, kept } = first_below(state, cog, until);
+        let InstructionStart { next, kept } = first_below(state, cog, until);
         return Ran { done, next, kept };
     }
     Ran {
@@ -218,7 +218,7 @@ fn run_on(state: &mut State, cog: u8, until: u64, budget: u32) -> Ran
 
 /// The same. Where the instruction at hand is a jump, or asks the hub, or does so behind that jump, no loop is entered for it.
 #[inline(always)]
-fn run(state: &mut State, cog: u8, until: u64, budget: u32) -> Ran
+fn run(state: &mut PasmState, cog: u8, until: u64, budget: u32) -> Ran
     requires at { state.old.at < 512 }
     requires cog { cog < 8 }
     requires clock { state.old.clock < 2 ^ 62 + 2 ^ 10 }
@@ -291,7 +291,7 @@ impl Progress {
     }
 
     /// Takes the next long of the load, and tells how far the life is then.
-    pub fn take_long(&mut self, long: u32) -> Stage
+    pub fn take_long(&mut self, long: u32) -> PasmStage
         requires at { self.old.begun.at < 496 }
         requires clock { self.old.begun.clock < 2 ^ 62 }
         ensures { Loads self.old.begun long self.new result }
@@ -299,17 +299,17 @@ impl Progress {
         self.had = Had::Nothing;
         self.begun.load(long);
         if self.begun.at < LOADED_LONGS {
-            return Stage::Loading;
+            return PasmStage::Loading;
         }
         self.begun.begin();
-        Stage::Running
+        PasmStage::Running
     }
 
     /// Tells the next access below a clock of an instruction that has had turns.
     ///
     /// It is never inlined, so that where an instruction has had none no room is kept for its turns.
     #[inline(never)]
-    fn further(&mut self, cog: u8, until: u64) -> Next
+    fn further_access(&mut self, cog: u8, until: u64) -> Next
         requires at { self.old.begun.at < 512 }
         requires cog { cog < 8 }
         requires until { until < 2 ^ 62 }
@@ -351,12 +351,12 @@ impl Progress {
             Had::Nothing => run(&mut self.begun, cog, until, budget),
             Had::One(_) => Ran {
                 done: 0,
-                next: self.further(cog, until),
+                next: self.further_access(cog, until),
                 kept: None,
             },
             Had::Two(_, _) => Ran {
                 done: 0,
-                next: self.further(cog, until),
+                next: self.further_access(cog, until),
                 kept: None,
             },
         }

@@ -2,7 +2,7 @@
 
 /// Where a life is between its start and its end.
 #[derive(Clone, Copy)]
-pub enum Stage {
+pub enum PasmStage {
     /// It reads the 496 longs of its load.
     Loading,
     /// It runs them.

@@ -6,7 +6,7 @@ ghost use Rattle.p8_cog.specs.Replay.{fetched_before, fetched_after, passed, fir
 ghost use Rattle.p8_cog.specs.Stops.{left_with, latest};
 
 use crate::hub::value_in;
-use crate::kind::{INB, PAR, source_access};
+use crate::instruction_kind::{INB, PAR, source_access};
 use crate::registers::{LOADED_LONGS, Registers};
 use p8_access::{Access, Turn};
 use p8_alu::{Effect, execute};
@@ -16,7 +16,7 @@ use std::alloc::Global;
 
 /// What stands in a cog where an instruction begins.
 #[derive(Drop)]
-pub struct State {
+pub struct PasmState {
     pub registers: Registers,
     /// The value of PAR as a source.
     pub par: u16,
@@ -40,14 +40,14 @@ fn flag_of(writes: bool, new: bool, old: bool) -> bool
     if writes { new } else { old }
 }
 
-impl State {
+impl PasmState {
     /// What stands in a cog that is to load from the clock of its Load on, with this value of PAR.
-    pub fn unloaded(alloc: Global, par: u16, load: u64) -> Result<State, NoMemory>
+    pub fn unloaded(alloc: Global, par: u16, load: u64) -> Result<PasmState, NoMemory>
         ensures par { IfOk result (λ s. s.par ≡ par) }
         ensures at { IfOk result (λ s. s.at ≡ 0) }
         ensures clock { IfOk result (λ s. s.clock ≡ load) }
     {
-        Ok(State {
+        Ok(PasmState {
             registers: Registers::new(alloc)?,
             par,
             at: 0,

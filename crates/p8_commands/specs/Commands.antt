@@ -9,7 +9,7 @@ use Rattle.clap.specs.Simple.{matches_of}
 use Rattle.clap.specs.Walk.{Text, first_of}
 use Rattle.p8_commands.specs.declared.table.Subcommand.{Subcommand}
 use Rattle.p8_commands.specs.declared.table.Subcommand.TheVariants as named
-use Rattle.p8_commands.specs.declared.kind.ImageKind.{ImageKind}
+use Rattle.p8_commands.specs.declared.image_kind.ImageKind.{ImageKind}
 use Rattle.p8_commands.specs.Kinds.{kind_named}
 use Rattle.p8_commands.specs.Numbers.{is_digit, number_of, number_from, range_of, cog_of, refusal_of, most_clocks, most_shown_clocks, most_turns}
 use Rattle.p8_commands.specs.Numbers.{usual_turns, most_saved_turns, most_page_turns, last_pin, least_bits, most_bits, least_columns, most_columns}

@@ -1,8 +1,8 @@
 -- What a file is taken for, by the end of its name (this project's profile).
 use Rattle.std.specs.Prelude.{ℕ, ◌==◌, Bool, if◌then◌else◌, List, Option, Some, None, codes}
 use Rattle.std.specs.List.{ends_with}
-use Rattle.p8_commands.specs.declared.kind.ImageKind.{ImageKind}
-use Rattle.p8_commands.specs.declared.kind.ImageKind.TheVariants.{Binary, Eeprom}
+use Rattle.p8_commands.specs.declared.image_kind.ImageKind.{ImageKind}
+use Rattle.p8_commands.specs.declared.image_kind.ImageKind.TheVariants.{Binary, Eeprom}
 
 -- a name ends so, byte for byte; a name that is the ending alone does
 abbrev pub has_ending : (name ending : List ℕ) → Bool

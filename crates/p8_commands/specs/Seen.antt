@@ -4,7 +4,7 @@ use Rattle.std.specs.Prelude.{ℕ, ◌≤◌, List, Option, Some, None, map}
 use Rattle.std.specs.Borrow.{Bor}
 use Rattle.std.specs.Option.{ForSome}
 use Rattle.p8_commands.specs.declared.table.Argument.{Argument as ArgumentHeld}
-use Rattle.p8_commands.specs.declared.table.Row.{Row}
+use Rattle.p8_commands.specs.declared.table.CommandEntry.{CommandEntry}
 use Rattle.p8_commands.specs.declared.command.Command.{Command as CommandRead}
 use Rattle.p8_commands.specs.declared.command.Command.TheVariants as read
 use Rattle.p8_commands.specs.declared.command.Run.{Run as RunRead}
@@ -25,7 +25,7 @@ argument_of a = record { kind = a.kind; name = a.name.now; value = a.value.now; 
 abbrev pub text_of : Bor (List ℕ) → List ℕ
 text_of text = text.now
 
-abbrev pub entry_in : Row → Entry
+abbrev pub entry_in : CommandEntry → Entry
 entry_in row =
     record { word = row.word.now; arguments = map argument_of row.arguments.now; about = row.about.now; examples = map text_of row.examples.now }
 

@@ -8,7 +8,7 @@ ghost use Rattle.p8_commands.specs.Table.{app_for, rule_by};
 ghost use Rattle.p8_commands.specs.Taking.{Takes};
 ghost use Rattle.p8_commands.specs.declared.table.ArgumentKind.TheVariants.{Operand, OptionalOperand, Valued, Flag};
 
-use crate::table::{ArgumentKind, Row};
+use crate::table::{ArgumentKind, CommandEntry};
 use clap::error::ErrorKind;
 use clap::{Arg, ArgAction, ArgMatches, Command};
 use p8_words::NoMemory;
@@ -60,7 +60,7 @@ fn arg_for<'a>(alloc: Global, kind: ArgumentKind, name: &'a str) -> Arg<'a>
 }
 
 /// A command as `clap` takes it.
-pub fn command_for<'a>(alloc: Global, row: Row) -> Result<Command<'a>, NoMemory>
+pub fn command_for<'a>(alloc: Global, row: CommandEntry) -> Result<Command<'a>, NoMemory>
     ensures { IfOk result (λ command. app_of command ≡ app_for (entry_in row)) }
 {
     let mut command = Command::new(alloc, row.word);

@@ -3,7 +3,7 @@ ghost use Rattle.std.specs.Prelude.{◌≡◌, if◌then◌else◌, Some, None};
 ghost use Rattle.p8_commands.specs.Commands.{alone_of, explains as explains_of};
 ghost use Rattle.p8_commands.specs.Seen.{command_read};
 
-use crate::kind::ImageKind;
+use crate::image_kind::ImageKind;
 use crate::table::Subcommand;
 
 /// A run of a file.

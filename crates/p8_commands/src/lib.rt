@@ -3,7 +3,7 @@
 
 mod arguments;
 mod command;
-mod kind;
+mod image_kind;
 mod numbers;
 mod page;
 mod pins;
@@ -11,7 +11,7 @@ mod table;
 mod words;
 
 pub use command::{Command, Dump, Run};
-pub use kind::ImageKind;
+pub use image_kind::ImageKind;
 pub use page::help_page;
 pub use table::Subcommand;
 pub use words::command_in;

@@ -4,7 +4,7 @@ ghost use Rattle.std.specs.List.{flat_map};
 ghost use Rattle.p8_commands.specs.Pages.{spelled, spelled_by, words_line, argument_line, about_line, example_line, page_of, summary_of, help_text};
 ghost use Rattle.p8_commands.specs.Seen.{argument_of, entry_in, text_of};
 
-use crate::table::{Argument, ArgumentKind, Row, Subcommand};
+use crate::table::{Argument, ArgumentKind, CommandEntry, Subcommand};
 use p8_words::NoMemory;
 use std::alloc::Global;
 
@@ -52,7 +52,7 @@ fn push_argument(out: &mut Vec<u8>, argument: Argument) -> Result<(), NoMemory>
 
 /// Appends the line of the words of a command.
 #[tactic(auto, unfolding(crate::specs::Pages::words_line))]
-fn push_words_line(out: &mut Vec<u8>, row: Row) -> Result<(), NoMemory>
+fn push_words_line(out: &mut Vec<u8>, row: CommandEntry) -> Result<(), NoMemory>
     ensures { OnOk result (out.new.items ≡ out.old.items ++ words_line (entry_in row)) }
 {
     push_between(out, b"prop ", row.word.as_bytes(), b"")?;
@@ -86,7 +86,7 @@ fn push_argument_lines(out: &mut Vec<u8>, arguments: &[Argument]) -> Result<(), 
 
 /// Appends the line of what a command does.
 #[tactic(auto, unfolding(crate::specs::Pages::about_line))]
-fn push_about_line(out: &mut Vec<u8>, row: Row) -> Result<(), NoMemory>
+fn push_about_line(out: &mut Vec<u8>, row: CommandEntry) -> Result<(), NoMemory>
     ensures { OnOk result (out.new.items ≡ out.old.items ++ about_line (entry_in row)) }
 {
     out.extend_from_slice(row.about.as_bytes())?;
@@ -116,7 +116,7 @@ fn push_example_lines(out: &mut Vec<u8>, examples: &[&str]) -> Result<(), NoMemo
 }
 
 /// Appends the page of a command.
-fn push_page(out: &mut Vec<u8>, row: Row) -> Result<(), NoMemory>
+fn push_page(out: &mut Vec<u8>, row: CommandEntry) -> Result<(), NoMemory>
     ensures { OnOk result (out.new.items ≡ out.old.items ++ page_of (entry_in row)) }
 {
     push_words_line(out, row)?;

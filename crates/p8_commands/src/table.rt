@@ -29,7 +29,7 @@ pub struct Argument {
 
 /// A row of the table.
 #[derive(Clone, Copy)]
-pub struct Row {
+pub struct CommandEntry {
     /// The first word of the command.
     pub word: &'static str,
     pub arguments: &'static [Argument],
@@ -370,11 +370,11 @@ impl Subcommand {
     }
 
     /// The command's row of the table.
-    pub fn row(self) -> Row
+    pub fn row(self) -> CommandEntry
         ensures { entry_in result ≡ entry_of self }
     {
         match self {
-            Subcommand::Build => Row {
+            Subcommand::Build => CommandEntry {
                 word: "build",
                 arguments: &[SOURCE_FILE, SHORT],
                 about: "Writes the image of a source, as a .binary file holds it.",
@@ -383,37 +383,37 @@ impl Subcommand {
                     "prop build blink.spin --short",
                 ],
             },
-            Subcommand::List => Row {
+            Subcommand::List => CommandEntry {
                 word: "list",
                 arguments: &[SOURCE_FILE, SHORT],
                 about: "Writes the listing of a source: its objects, their methods, and the code of each.",
                 examples: &["prop list blink.spin", "prop list blink.spin --short"],
             },
-            Subcommand::Code => Row {
+            Subcommand::Code => CommandEntry {
                 word: "code",
                 arguments: &[CODE_FILE, SHORT],
                 about: "Writes the code of a project or of an image, for reading.",
                 examples: &["prop code blink.spin", "prop code blink.binary"],
             },
-            Subcommand::Map => Row {
+            Subcommand::Map => CommandEntry {
                 word: "map",
                 arguments: &[SOURCE_FILE],
                 about: "Writes the map of a source: where in the hub each variable, label, method and text of its objects stands.",
                 examples: &["prop map blink.spin", "prop map blink.spin | less"],
             },
-            Subcommand::Explain => Row {
+            Subcommand::Explain => CommandEntry {
                 word: "explain",
                 arguments: &[EXPLAINED],
                 about: "Tells why a source is refused, with the line that is and what mends it; or tells a refusal by its number.",
                 examples: &["prop explain blink.spin", "prop explain 12"],
             },
-            Subcommand::Hint => Row {
+            Subcommand::Hint => CommandEntry {
                 word: "hint",
                 arguments: &[SOURCE_FILE],
                 about: "Tells what is accepted in a source and is most likely a slip, each with its line; or that there is nothing to hint at.",
                 examples: &["prop hint blink.spin", "prop hint blink.spin | less"],
             },
-            Subcommand::Raw => Row {
+            Subcommand::Raw => CommandEntry {
                 word: "raw",
                 arguments: &[MEMORY_FILE, CLOCKS, PINS, TURNS, DUMP],
                 about: "Runs hub memory up to a clock, and writes the trace.",
@@ -422,7 +422,7 @@ impl Subcommand {
                     "prop raw hub.bin 20000 --pins button.pins",
                 ],
             },
-            Subcommand::Run => Row {
+            Subcommand::Run => CommandEntry {
                 word: "run",
                 arguments: &[PROGRAM_FILE, CLOCKS, PINS, TURNS, DUMP, ALONE, SHORT],
                 about: "Runs an image or a source up to a clock, and writes the trace.",
@@ -431,7 +431,7 @@ impl Subcommand {
                     "prop run blink.binary 200000 --pins button.pins --alone",
                 ],
             },
-            Subcommand::Save => Row {
+            Subcommand::Save => CommandEntry {
                 word: "save",
                 arguments: &[ANY_FILE, CLOCKS, PINS, SAVED_TURNS, RAW],
                 about: "Runs a file up to a clock, and writes the history, from which check tells whether a run has it.",
@@ -440,7 +440,7 @@ impl Subcommand {
                     "prop save blink.spin 20000 --turns 500",
                 ],
             },
-            Subcommand::Check => Row {
+            Subcommand::Check => CommandEntry {
                 word: "check",
                 arguments: &[ANY_FILE, HISTORY_FILE, PINS, RAW],
                 about: "Checks that a history is that of a run of a file: writes its number of turns, or tells the first turn that isn't.",
@@ -449,7 +449,7 @@ impl Subcommand {
                     "prop check blink.binary blink.history --pins button.pins",
                 ],
             },
-            Subcommand::Serial => Row {
+            Subcommand::Serial => CommandEntry {
                 word: "serial",
                 arguments: &[ANY_FILE, CLOCKS, PIN, BITS, PINS, TURNS, RAW],
                 about: "Runs a file up to a clock, and writes the bytes that stand on a pin as 8 data bits, no parity and one stop bit.",
@@ -458,7 +458,7 @@ impl Subcommand {
                     "prop serial echo.spin 400000 30 694 --pins hello.pins",
                 ],
             },
-            Subcommand::TypeFile => Row {
+            Subcommand::TypeFile => CommandEntry {
                 word: "type",
                 arguments: &[MESSAGE_FILE, PIN, BITS, START],
                 about: "Writes a pin script that sends the bytes of a file on a pin, as serial reads them.",
@@ -467,7 +467,7 @@ impl Subcommand {
                     "prop type hello.txt 0 100 1000",
                 ],
             },
-            Subcommand::Wave => Row {
+            Subcommand::Wave => CommandEntry {
                 word: "wave",
                 arguments: &[
                     ANY_FILE,
@@ -485,7 +485,7 @@ impl Subcommand {
                     "prop wave blink.spin 200000 --all --pins-only",
                 ],
             },
-            Subcommand::Plot => Row {
+            Subcommand::Plot => CommandEntry {
                 word: "plot",
                 arguments: &[
                     ANY_FILE,
@@ -505,7 +505,7 @@ impl Subcommand {
                     "prop plot blink.spin 200000 0,16-23 1000:9000 --ascii --width 60",
                 ],
             },
-            Subcommand::View => Row {
+            Subcommand::View => CommandEntry {
                 word: "view",
                 arguments: &[
                     ANY_FILE,
@@ -527,7 +527,7 @@ impl Subcommand {
                     "prop view blink.spin 200000 --quiet --dump ser.rx_head",
                 ],
             },
-            Subcommand::Page => Row {
+            Subcommand::Page => CommandEntry {
                 word: "page",
                 arguments: &[ANY_FILE, SHOWN_RUN_CLOCKS, PINS, PAGE_TURNS, RAW, FROM, TO],
                 about: "Runs a file up to a clock, and writes a page in HTML that shows the run in a browser: cogs, pins, the hub, and the lines of a source.",
@@ -536,7 +536,7 @@ impl Subcommand {
                     "prop page blink.spin 200000 --from 8000 --turns 500",
                 ],
             },
-            Subcommand::Convert => Row {
+            Subcommand::Convert => CommandEntry {
                 word: "convert",
                 arguments: &[IMAGE_FILE],
                 about: "Writes an image as the other kind of file: of a .binary the .eeprom, of an .eeprom the .binary.",
@@ -545,13 +545,13 @@ impl Subcommand {
                     "prop convert blink.eeprom > blink.binary",
                 ],
             },
-            Subcommand::Make => Row {
+            Subcommand::Make => CommandEntry {
                 word: "make",
                 arguments: &[SEED, ALONE],
                 about: "Runs a made program for eight cogs, and writes a summary.",
                 examples: &["prop make 1", "prop make 4294967295 --alone"],
             },
-            Subcommand::Help => Row {
+            Subcommand::Help => CommandEntry {
                 word: "help",
                 arguments: &[TOPIC],
                 about: "Writes what a command does, its arguments, their limits and two examples.",

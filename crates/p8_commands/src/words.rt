@@ -14,7 +14,7 @@ ghost use Rattle.p8_commands.specs.Seen.{command_if_any, dump_if_any, run_if_any
 
 use crate::arguments::{command_for, matches_in};
 use crate::command::{Command, Dump, Run};
-use crate::kind::ImageKind;
+use crate::image_kind::ImageKind;
 use crate::numbers::{cog_in, is_of_digits, number_from, number_in, range_in, refusal_in};
 use crate::pins::{LAST_PIN, mask_in, span_by, span_in};
 use crate::table::Subcommand;

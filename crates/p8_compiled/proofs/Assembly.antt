@@ -14,10 +14,10 @@ use Rattle.p8_alu.specs.declared.effect.Effect.{Effect}
 use Rattle.p8_alu.specs.Effects.{is_set}
 use Rattle.p8_instr.specs.declared.instruction.Instr.{Instr}
 use Rattle.p8_instr.specs.Instruction.{is_immediate, writes_result}
-use Rattle.p8_cog.specs.declared.kind.Kind.{Kind}
-use Rattle.p8_cog.specs.declared.kind.Kind.TheVariants.{Skipped, Halting, OfHub, Waiting, Computing}
+use Rattle.p8_cog.specs.declared.instruction_kind.InstructionKind.{InstructionKind}
+use Rattle.p8_cog.specs.declared.instruction_kind.InstructionKind.TheVariants.{Skipped, Halting, OfHub, Waiting, Computing}
 use Rattle.p8_cog.specs.declared.hub.Request.{Request}
-use Rattle.p8_cog.specs.declared.state.State.{State}
+use Rattle.p8_cog.specs.declared.state.PasmState.{PasmState}
 use Rattle.p8_cog.specs.Instructions.{cnt_register, ina_register, outa_register, dira_register, ctra_register, hubop, clkset, cogid, coginit, cogstop, locknew, lockret, lockset, kind_of, width_of, source_access}
 use Rattle.p8_cog.specs.Replay.{Course, Ask, Go, End, ask, halt, at_hand, next_of, fetched_before, passed, hub_address, test_of, destination_value, source_value, sourced_by, register_access, result_access, written_by, write, ends_after, effect, computed, compute, read_access, move_request, operation_request, hub_request, answered, use_hub, is_port_wait, wait, wait_effect, does, instruction, Outcome, Asks, Goes, Ends, played, step, after, loading, replayed, loaded_by}
 use Rattle.p8_meaning.specs.Programs.{Program, Addresses}
@@ -70,7 +70,7 @@ module _ (program : Program) (addresses : Addresses) where
   nothing : GoodOption None
   nothing = record { some = tt }
 
-  done : (s : State) → GoodCourse (Go s)
+  done : (s : PasmState) → GoodCourse (Go s)
   done s = record { all = tt }
 
   ended : GoodCourse End
@@ -96,21 +96,21 @@ module _ (program : Program) (addresses : Addresses) where
   asks-good : (clock : ℕ) (access : Access) (go : Turn → Course) → Good access → ((turn : Turn) → GoodCourse (go turn)) → GoodCourse (Ask clock access go)
   asks-good clock access go h k = record { all = (h, λ turn. (k turn).all) }
 
-  sourced-good : (o : Option Access) (clock : ℕ) (s : State) (go : ℕ → Course) → GoodOption o → ((source : ℕ) → GoodCourse (go source)) → GoodCourse (sourced_by o clock s go)
+  sourced-good : (o : Option Access) (clock : ℕ) (s : PasmState) (go : ℕ → Course) → GoodOption o → ((source : ℕ) → GoodCourse (go source)) → GoodCourse (sourced_by o clock s go)
   sourced-good None clock s go h k = k (source_value s)
   sourced-good (Some access) clock s go h k = asks-good clock access _ h.some (λ turn. k (value_of turn.answer))
 
   ask-good : (cog clock : ℕ) (access : Access) (go : Turn → Course) → Good access → ((turn : Turn) → GoodCourse (go turn)) → GoodCourse (ask cog clock access go)
   ask-good cog clock access go h k = asks-good clock access _ h (λ turn. if-course (is_last cog access) ended (k turn))
 
-  written-good : (o : Option Access) (cog clock : ℕ) (next : State) → GoodOption o → GoodCourse (written_by o cog clock next)
+  written-good : (o : Option Access) (cog clock : ℕ) (next : PasmState) → GoodOption o → GoodCourse (written_by o cog clock next)
   written-good None cog clock next h = done next
   written-good (Some access) cog clock next h = ask-good cog clock access (λ turn. Go next) h.some (λ turn. done next)
 
-  write-good : (cog : ℕ) (s : State) (x : Effect) (clock : ℕ) (next : State) → GoodCourse (write cog s x clock next)
+  write-good : (cog : ℕ) (s : PasmState) (x : Effect) (clock : ℕ) (next : PasmState) → GoodCourse (write cog s x clock next)
   write-good cog s x clock next = written-good (result_access (at_hand s) x.result) cog clock next (result-good (at_hand s) x.result)
 
-  ends-good : (cog : ℕ) (s : State) (x : Effect) (clock : ℕ) → GoodCourse (ends_after cog s x clock)
+  ends-good : (cog : ℕ) (s : PasmState) (x : Effect) (clock : ℕ) → GoodCourse (ends_after cog s x clock)
   ends-good cog s x clock = write-good cog s x clock (fetched_before s x (next_of s) (clock + 1))
 
   operation-good : (operation value : ℕ) → GoodRequest (operation_request operation value)
@@ -132,13 +132,13 @@ module _ (program : Program) (addresses : Addresses) where
   hub-good : (i : Instr) (value source : ℕ) → GoodRequest (hub_request i value source)
   hub-good i value source = if-request (i.opcode == hubop) (operation-good (source % 8) value) (move-good i (width_of i.opcode) value source)
 
-  uses_hub-good : (cog : ℕ) (s : State) (source : ℕ) → GoodCourse (use_hub cog s source)
+  uses_hub-good : (cog : ℕ) (s : PasmState) (source : ℕ) → GoodCourse (use_hub cog s source)
   uses_hub-good cog s source =
       let r = hub_request (at_hand s) (destination_value s) source in
       ask-good cog (window_of cog (s.clock + 1)) r.access (λ turn. ends_after cog s (answered r.kept turn.answer) (turn.key.clock + 6)) (hub-good (at_hand s) (destination_value s) source).asks
       (λ turn. ends-good cog s (answered r.kept turn.answer) (turn.key.clock + 6))
 
-  wait-good : (cog : ℕ) (s : State) (source : ℕ) → GoodCourse (wait cog s source)
+  wait-good : (cog : ℕ) (s : PasmState) (source : ℕ) → GoodCourse (wait cog s source)
   wait-good cog s source =
       ask-good cog (s.clock + 4) (Wait (test_of (at_hand s).opcode (destination_value s) source)) (λ turn. ends_after cog s (wait_effect (at_hand s).opcode (destination_value s) source) (turn.key.clock + 1)) (record { starts = tt })
       (λ turn. ends-good cog s (wait_effect (at_hand s).opcode (destination_value s) source) (turn.key.clock + 1))
@@ -146,7 +146,7 @@ module _ (program : Program) (addresses : Addresses) where
   halts-good : (clock : ℕ) (reason : Reason) → GoodCourse (halt clock reason)
   halts-good clock reason = asks-good clock (Halt reason) (λ turn. End) (record { starts = tt }) (λ turn. ended)
 
-  does-good : (kind : Kind) (cog : ℕ) (s : State) → GoodCourse (does kind cog s)
+  does-good : (kind : InstructionKind) (cog : ℕ) (s : PasmState) → GoodCourse (does kind cog s)
   does-good Skipped cog s = done (passed s)
   does-good Halting cog s = halts-good s.clock (Opcode s.long)
   does-good OfHub cog s = sourced-good (source_access (at_hand s)) s.clock s (use_hub cog s) (source-good (at_hand s)) (uses_hub-good cog s)

@@ -11,8 +11,8 @@ use Rattle.p8_access.specs.declared.kinds.Access.{Access}
 use Rattle.p8_access.specs.declared.kinds.Access.TheVariants as access_case
 use Rattle.p8_access.specs.Courses.{Course, Finish, Stop}
 use Rattle.p8_tree.specs.declared.places.Place.{Place}
-use Rattle.p8_bcog.specs.declared.marks.Mark.{Mark}
-use Rattle.p8_bcog.specs.declared.state.State.{State}
+use Rattle.p8_bcog.specs.declared.marks.CallMark.{CallMark}
+use Rattle.p8_bcog.specs.declared.state.SpinState.{SpinState}
 use Rattle.p8_bcog.specs.declared.step.Callee as entry
 use Rattle.p8_bcog.specs.declared.step.Given.{Given}
 use Rattle.p8_bcog.specs.declared.step.Given.TheVariants.{Started}
@@ -31,11 +31,11 @@ use Rattle.p8_compiled.proofs.Places.{Frame, at, left_on}
 use Rattle.p8_compiled.proofs.Stepping.{engine, F}
 use Rattle.p8_compiled.proofs.Calling.{follows-gives}
 
-module _ (memory : List ℕ) (cog : ℕ) (table : List (ℕ × Place)) (hand : Place) (c : Frame) (q base : ℕ) (marks : List Mark) (xs : List ℕ) (f : ℕ) (own : Registers) where
-  abbrev e : Reading State
+module _ (memory : List ℕ) (cog : ℕ) (table : List (ℕ × Place)) (hand : Place) (c : Frame) (q base : ℕ) (marks : List CallMark) (xs : List ℕ) (f : ℕ) (own : Registers) where
+  abbrev e : Reading SpinState
   e = engine memory cog table hand
 
-  abbrev st : State
+  abbrev st : SpinState
   st = at c q base marks xs own
 
   abbrev Leaves : (used : Bool) → (ℕ → Rest) → Type 0
@@ -107,7 +107,7 @@ module _ (memory : List ℕ) (cog : ℕ) (table : List (ℕ × Place)) (hand : P
     full-is : full ≡ xs ++ above
     full-is = append_assoc (xs ++ id ∷ []) arguments (stack ∷ []) ∙ append_assoc xs (id ∷ []) (arguments ++ stack ∷ [])
 
-    abbrev held : State
+    abbrev held : SpinState
     held = at c q base marks full own
 
     above-count : length above ≡ length arguments + 2
@@ -140,12 +140,12 @@ module _ (memory : List ℕ) (cog : ℕ) (table : List (ℕ × Place)) (hand : P
     unfolding cogs.start_method gets
     start-follows go m =
         let given : ℕ → ℕ → Given = λ number place. Started (cogs.target_of number) (cogs.spin_origin begun count place) (count + 2) in
-        let after : ℕ → List ℕ → Given → Course State = λ place values g. calling.gives ((cogs.long_address place + 4) % 2 ^ 16) values g held in
+        let after : ℕ → List ℕ → Given → Course SpinState = λ place values g. calling.gives ((cogs.long_address place + 4) % 2 ^ 16) values g held in
         let tests : cogs.start_method memory n count held ≡ after stack arguments (given id stack) =
         fine held xs above (count + 2) 1 _ full-is (omega (arith, above-count)) low room
         ∙ ap (λ (so : Bool). if not so then Stop Why.Table else after (operand held 0) (take count (drop (length full - (count + 1)) full)) (given (operand held (count + 1)) (operand held 0))) is_there
         ∙ ap₂ (λ place (values : List ℕ). after place values (given (operand held (count + 1)) place)) stack-is arguments-are
         ∙ ap (λ number. after stack arguments (given number stack)) id-is in
-        subst (λ (d : Course State). F memory cog table hand f own d (writes_longs ((cogs.long_address stack + 4) % 2 ^ 16) arguments (asks (start_of id stack) go))) (sym tests)
+        subst (λ (d : Course SpinState). F memory cog table hand f own d (writes_longs ((cogs.long_address stack + 4) % 2 ^ 16) arguments (asks (start_of id stack) go))) (sym tests)
         (follows-gives memory cog table hand arguments ((cogs.long_address stack + 4) % 2 ^ 16) (given id stack) held f own (asks (start_of id stack) go)
-        (follows-asks e (start_of id stack) go (λ answer. subst (λ (s : State). F memory cog table hand f own (Finish (record s { stack = s.stack ++ word_in answer ∷ [] })) (go (word_in answer))) (sym (taken-is held xs above (count + 2) full-is (omega (arith, above-count)))) (m (word_in answer)))))
+        (follows-asks e (start_of id stack) go (λ answer. subst (λ (s : SpinState). F memory cog table hand f own (Finish (record s { stack = s.stack ++ word_in answer ∷ [] })) (go (word_in answer))) (sym (taken-is held xs above (count + 2) full-is (omega (arith, above-count)))) (m (word_in answer)))))

@@ -9,7 +9,7 @@ use Rattle.p8_bytecode.specs.declared.operands.Operands.TheVariants.{Nothing, On
 use Rattle.p8_bytecode.specs.Table.{rows, operands_of}
 use Rattle.p8_bytecode.specs.Reading.{bare}
 use Rattle.p8_bytecode.specs.Spelling.{FitsOperands, IsOp}
-use Rattle.p8_bcog.specs.declared.state.State.{State}
+use Rattle.p8_bcog.specs.declared.state.SpinState.{SpinState}
 use Rattle.p8_bcog.specs.Operands.{operand, taken, tested}
 use Rattle.p8_bcog.specs.Calls as calling
 use Rattle.p8_bcog.specs.Control as control
@@ -43,14 +43,14 @@ three-bytes-are code l m n is ll lm ln = with-operands (record (bare code) { fir
 -- ---- numbers
 
 module _ (memory : List ℕ) (cog base : ℕ) (table : List (ℕ × Place)) (hand : Place) where
-  abbrev pub DoesAt : (State → Course State) → (p q : ℕ) → Type 0
+  abbrev pub DoesAt : (SpinState → Course SpinState) → (p q : ℕ) → Type 0
   DoesAt course p q = Does memory cog table hand p course q
 
   abbrev pub Stands : Piece → ((p q : ℕ) → Type 0) → Type 0
   Stands a R = Stand memory base table hand a R
 
   -- a bytecode that has nothing beside its byte
-  pub byte-stand : (code : ℕ) (course : State → Course State) → operands_of code ≡ Some Nothing → ((s : State) → row memory cog (bare code) s ≡ course s) → Stands (byte code) (DoesAt course)
+  pub byte-stand : (code : ℕ) (course : SpinState → Course SpinState) → operands_of code ≡ Some Nothing → ((s : SpinState) → row memory cog (bare code) s ≡ course s) → Stands (byte code) (DoesAt course)
   byte-stand code course is does = one-stand memory cog base table hand (bare code) course (bare-is code is) does
 
   pub zero-stand : Stands (byte 0x35) (DoesAt (gives 0))

@@ -6,8 +6,8 @@ use Rattle.p8_access.specs.Courses.{Course}
 use Rattle.p8_bytecode.specs.declared.op.Op.{Op}
 use Rattle.p8_bytecode.specs.Table.{is_effect, is_step}
 use Rattle.p8_bytecode.specs.Spelling.{IsChange, IsStep, IsOp}
-use Rattle.p8_bcog.specs.declared.state.State.{State}
-use Rattle.p8_bcog.specs.declared.place.Place as place
+use Rattle.p8_bcog.specs.declared.state.SpinState.{SpinState}
+use Rattle.p8_bcog.specs.declared.variable_place.VariablePlace as place
 use Rattle.p8_bcog.specs.declared.step.Wanted.TheVariants as wanted_case
 use Rattle.p8_bcog.specs.Operands.{operand, taken, tested}
 use Rattle.p8_bcog.specs.Places as places
@@ -30,26 +30,26 @@ otherwise F true is g = absurd (cc)
 otherwise F false is g = g
 
 -- the address of what lies in memory
-refers-to : (t : Compiled) (v : Variable) → IsTrue (proper.is_in_memory v) → (s : State) → referenced (names_count v) (site_of t v (tops (names_count v) s) s) s ≡ addresses_of t v (tops (names_count v) s) (taken (names_count v) s)
+refers-to : (t : Compiled) (v : Variable) → IsTrue (proper.is_in_memory v) → (s : SpinState) → referenced (names_count v) (site_of t v (tops (names_count v) s) s) s ≡ addresses_of t v (tops (names_count v) s) (taken (names_count v) s)
 refers-to t (Named name i q) is s = refl
 refers-to t (Part name size i q) is s = refl
 refers-to t (Memory size e i q) is s = refl
 refers-to t (Register address x q) is s = absurd (cc)
 
 module _ (n : Names) (t : Compiled) (base : ℕ) where
-  abbrev pub StandsAt : Op → (State → Course State) → Type 0
+  abbrev pub StandsAt : Op → (SpinState → Course SpinState) → Type 0
   StandsAt op course = Stand t.memory base t.table t.hand (one op) (λ p q. At t p course q)
 
   module _ (v : Variable) (f : IsFound n t v) where
-    abbrev there : State → place.Place
+    abbrev there : SpinState → place.VariablePlace
     there s = site_of t v (tops (names_count v) s) s
 
     -- after the test the place is that of the source
-    placed : (takes leaves : ℕ) (s : State) (course : place.Place → Course State) → names_count v ≤ takes → tested takes leaves s (course (f.at s)) ≡ tested takes leaves s (course (there s))
+    placed : (takes leaves : ℕ) (s : SpinState) (course : place.VariablePlace → Course SpinState) → names_count v ≤ takes → tested takes leaves s (course (f.at s)) ≡ tested takes leaves s (course (there s))
     placed takes leaves s course le = tested-same takes leaves s _ _ (λ enough. ap course (f.site s (omega (arith, le, enough))))
 
     -- an operation that does this
-    stands-by : (o : Operation) (course : State → Course State) → FitsEffect o (with_jump (op_for n v o) 0 false) → ((s : State) → done o (names_count v) (op_for n v o) (f.at s) s ≡ course s) → StandsAt (op_for n v o) course
+    stands-by : (o : Operation) (course : SpinState → Course SpinState) → FitsEffect o (with_jump (op_for n v o) 0 false) → ((s : SpinState) → done o (names_count v) (op_for n v o) (f.at s) s ≡ course s) → StandsAt (op_for n v o) course
     stands-by o course fits same =
         let a : Acts t.memory t.cog (op_for n v o) o (names_count v) f.at = f.acts o in
         one-stand t.memory t.cog base t.table t.hand (op_for n v o) course (subst IsOp a.plain (a.is_op 0 false fits))
@@ -75,7 +75,7 @@ module _ (n : Names) (t : Compiled) (base : ℕ) where
     with-effect : (op : Op) (effect : ℕ) → op.effect ≡ effect → record op { effect = effect } ≡ op
     with-effect op effect is = ap (λ e. record op { effect = e }) (sym is)
 
-    changing : (effect : ℕ) (course : (named : ℕ) → place.Place → State → Course State) (wanted : State → Course State) → IsChanging effect course → ((s : State) → course (names_count v) (f.at s) s ≡ wanted s) → StandsAt (op_for n v (Using effect)) wanted
+    changing : (effect : ℕ) (course : (named : ℕ) → place.VariablePlace → SpinState → Course SpinState) (wanted : SpinState → Course SpinState) → IsChanging effect course → ((s : SpinState) → course (names_count v) (f.at s) s ≡ wanted s) → StandsAt (op_for n v (Using effect)) wanted
     changing effect course wanted c same =
         let op : Op = op_for n v (Using effect) in
         let is : op.effect ≡ effect = (f.acts (Using effect)).effect in

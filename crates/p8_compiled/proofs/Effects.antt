@@ -5,8 +5,8 @@ use Rattle.p8_access.specs.Courses.{Course}
 use Rattle.p8_bytecode.specs.declared.op.Op.{Op}
 use Rattle.p8_bytecode.specs.Table.{is_effect, is_step}
 use Rattle.p8_words.specs.Operators.{is_unary, binary_value}
-use Rattle.p8_bcog.specs.declared.state.State.{State}
-use Rattle.p8_bcog.specs.declared.place.Place as place
+use Rattle.p8_bcog.specs.declared.state.SpinState.{SpinState}
+use Rattle.p8_bcog.specs.declared.variable_place.VariablePlace as place
 use Rattle.p8_bcog.specs.declared.step.Wanted.TheVariants as wanted_case
 use Rattle.p8_bcog.specs.Operands.{operand, taken, tested}
 use Rattle.p8_bcog.specs.Places as places
@@ -17,14 +17,14 @@ use Rattle.p8_compiled.proofs.Choices.{each, all_from, within-row}
 use Rattle.p8_compiled.proofs.Truths.{at-most, both-true, equal, if-no, if-yes, implied, is-no}
 
 -- an effect byte without a jump, by what it does
-pub record IsChanging (effect : ℕ) (course : (named : ℕ) → place.Place → State → Course State) : Type 0 where
+pub record IsChanging (effect : ℕ) (course : (named : ℕ) → place.VariablePlace → SpinState → Course SpinState) : Type 0 where
   pub known : is_effect effect ≡ true
   pub no_step : is_step effect ≡ false
-  pub does : (op : Op) (count : ℕ) (at : place.Place) (s : State) → changes count (record op { effect = effect }) at s ≡ course count at s
+  pub does : (op : Op) (count : ℕ) (at : place.VariablePlace) (s : SpinState) → changes count (record op { effect = effect }) at s ≡ course count at s
 
 -- ---- a value is written
 
-abbrev pub stores_left : (named : ℕ) → place.Place → State → Course State
+abbrev pub stores_left : (named : ℕ) → place.VariablePlace → SpinState → Course SpinState
 stores_left named at s = tested (named + 1) 1 s (places.writes_place at (operand s named) (Some (operand s named)) (taken (named + 1) s))
 
 pub is-storing : IsChanging 0x80 stores_left
@@ -33,7 +33,7 @@ is-storing = record { known = refl; no_step = refl; does = λ op count at s. ref
 
 -- ---- an operator is applied
 
-abbrev pub changes_right : (effect named : ℕ) → place.Place → State → Course State
+abbrev pub changes_right : (effect named : ℕ) → place.VariablePlace → SpinState → Course SpinState
 changes_right effect named at s = tested (named + 1) (leaves effect) s (places.reads_place (wanted_case.Changed effect (operand s named)) at (taken (named + 1) s))
 
 pub record IsOperating (used : Bool) (k : ℕ) : Type 0 where
@@ -157,7 +157,7 @@ is-operating used k is =
 
 -- ---- a variable is changed by itself
 
-abbrev pub changes_itself : (effect named : ℕ) → place.Place → State → Course State
+abbrev pub changes_itself : (effect named : ℕ) → place.VariablePlace → SpinState → Course SpinState
 changes_itself effect named at s = tested named (leaves effect) s (places.reads_place (wanted_case.Changed effect 0) at (taken named s))
 
 pub record IsUpdating (used : Bool) (effect change : ℕ) : Type 0 where
@@ -317,7 +317,7 @@ by-itself used size k is =
 
 -- ---- 0 or -1 is written
 
-abbrev pub sets_of : (used : Bool) → (value named : ℕ) → place.Place → State → Course State
+abbrev pub sets_of : (used : Bool) → (value named : ℕ) → place.VariablePlace → SpinState → Course SpinState
 sets_of true value named at s = tested named 1 s (places.reads_place (wanted_case.Replaced value) at (taken named s))
 sets_of false value named at s = tested named 0 s (places.writes_place at value None (taken named s))
 

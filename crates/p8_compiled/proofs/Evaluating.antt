@@ -4,7 +4,7 @@ use Rattle.std.proofs.Math.ListN.{length-append}
 use Rattle.p8_access.specs.Courses.{Finish}
 use Rattle.p8_tree.specs.Expressions.{Tree, node, Number, Str, Strings, Here, Var, Call, Unary, Binary, Assign, Change, Address, ObjectAddress, ObjConst, Built, Look, Variable, Named, Part, Memory, Register, Index, no_index, index, Bits, whole, bits, Item, single, range, Trees, no_trees, ◌▷◌, Items, no_items, ◌▸◌}
 use Rattle.p8_words.specs.Operators.{unary_value, binary_value, or_zero}
-use Rattle.p8_bcog.specs.declared.marks.Mark.{Mark}
+use Rattle.p8_bcog.specs.declared.marks.CallMark.{CallMark}
 use Rattle.p8_fold.specs.Values as constants
 use Rattle.std.proofs.lemmas.Bool.{eqb-true}
 use Rattle.p8_meaning.specs.Doing.{Rest, for_statement}
@@ -26,7 +26,7 @@ module _ (w : Working) where
   open w use {t, c, callee, abort, placed, most, ok, g, begun, top, lesser, aborts, is_instance, is_file}
 
   mutual
-    pub evaluates-meets : (e : Tree) (p q : ℕ) → standing.ValueAt t e p q → (b base : ℕ) (marks : List Mark) (xs : List ℕ) → Stands w b base marks xs → length xs + (depth w) e ≤ (room w) → length marks + height e ≤ (marked w) → (k : ℕ → Rest) →
+    pub evaluates-meets : (e : Tree) (p q : ℕ) → standing.ValueAt t e p q → (b base : ℕ) (marks : List CallMark) (xs : List ℕ) → Stands w b base marks xs → length xs + (depth w) e ≤ (room w) → length marks + height e ≤ (marked w) → (k : ℕ → Rest) →
         ((value : ℕ) → Then w b (at c q base marks (xs ++ value ∷ [])) (k value)) → Then w b (at c p base marks xs) (expressions.evaluates callee (s w) abort e k)
     evaluates-meets (node place (Number n)) p q h b base marks xs here fits few k m =
         λ f own le. by-gives t.memory t.cog t.table t.hand c p q base marks xs own here.low.low f (k n) n h (omega (arith, fits, (fits_stack w))) (m n f own le)
@@ -89,7 +89,7 @@ module _ (w : Working) where
         (looks-meet (expressions.goes_up code) wanted items q h.1 h.2 h.5 b base marks xs here (omega (arith, fits)) (omega (arith, few)) k (λ count. k 0) m
         (λ count f own le. by-two t.memory t.cog t.table t.hand c h.2 q base marks xs own here.low.low f (k 0) 1 standing.look_fails h.6 wanted count (omega (arith, fits, (fits_stack w))) (m 0 f own le)) first f own le))
 
-    variable-meets : (v : Variable) (p q : ℕ) → standing.VariableAt t v p q → (b base : ℕ) (marks : List Mark) (xs : List ℕ) → Stands w b base marks xs → length xs + max 1 (names_depth w v) ≤ (room w) → length marks + height_in_variable v ≤ (marked w) → (k : ℕ → Rest) →
+    variable-meets : (v : Variable) (p q : ℕ) → standing.VariableAt t v p q → (b base : ℕ) (marks : List CallMark) (xs : List ℕ) → Stands w b base marks xs → length xs + max 1 (names_depth w v) ≤ (room w) → length marks + height_in_variable v ≤ (marked w) → (k : ℕ → Rest) →
         ((value : ℕ) → Then w b (at c q base marks (xs ++ value ∷ [])) (k value)) → Then w b (at c p base marks xs) (expressions.evaluates_variable callee (s w) abort v k)
     variable-meets (Named name no_index place) p q h b base marks xs here fits few k m = name-meets w p q base marks xs here.low.low b here (omega (arith, fits)) (omega (arith, few)) (omega (arith, fits, (fits_stack w))) name place h k m
     variable-meets (Named name (index e) place) p q h b base marks xs here fits few k m =
@@ -107,7 +107,7 @@ module _ (w : Working) where
         bits-meets register x p h.0 h.1 b base marks xs here (omega (arith, fits)) (omega (arith, few)) (λ pins. fetches (s w) pins k)
         (λ names is. read-meets w h.0 q base marks xs here.low.low b (omega (arith, fits, (fits_stack w))) (Register register x place) h.2 h.3 names is k m)
 
-    pub names-meets : (v : Variable) (p q : ℕ) → standing.NamesAt t v p q → (b base : ℕ) (marks : List Mark) (xs : List ℕ) → Stands w b base marks xs → length xs + (names_depth w) v ≤ (room w) → length marks + height_in_variable v ≤ (marked w) → (k : Location → Rest) →
+    pub names-meets : (v : Variable) (p q : ℕ) → standing.NamesAt t v p q → (b base : ℕ) (marks : List CallMark) (xs : List ℕ) → Stands w b base marks xs → length xs + (names_depth w) v ≤ (room w) → length marks + height_in_variable v ≤ (marked w) → (k : Location → Rest) →
         ((names : List ℕ) → length names ≡ names_count v → Then w b (at c q base marks (xs ++ names)) (k (site (s w) v names))) → Then w b (at c p base marks xs) (expressions.locates callee (s w) abort v k)
     names-meets (Named name i place) p q h b base marks xs here fits few k m = index-meets i p q h b base marks xs here fits few (λ n. k (named (s w) name n)) m
     names-meets (Part name size i place) p q h b base marks xs here fits few k m = index-meets i p q h b base marks xs here fits few (λ n. k (part (s w) name size n)) m
@@ -117,14 +117,14 @@ module _ (w : Working) where
         (λ names is f own le. subst (λ (ys : List ℕ). (K w) f own (Finish (at c q base marks ys own)) (k (element size a (index_in i (at_number names 0))))) (sym (append_assoc xs (a ∷ []) names)) (m (a ∷ names) (omega (arith, is)) f own le)))
     names-meets (Register register x place) p q h b base marks xs here fits few k m = bits-meets register x p q h b base marks xs here fits few k m
 
-    pub index-meets : (i : Index) (p q : ℕ) → standing.IndexAt t i p q → (b base : ℕ) (marks : List Mark) (xs : List ℕ) → Stands w b base marks xs → length xs + (index_depth w) i ≤ (room w) → length marks + height_in_index i ≤ (marked w) → (k : ℕ → Rest) →
+    pub index-meets : (i : Index) (p q : ℕ) → standing.IndexAt t i p q → (b base : ℕ) (marks : List CallMark) (xs : List ℕ) → Stands w b base marks xs → length xs + (index_depth w) i ≤ (room w) → length marks + height_in_index i ≤ (marked w) → (k : ℕ → Rest) →
         ((names : List ℕ) → length names ≡ index_count i → Then w b (at c q base marks (xs ++ names)) (k (index_in i (at_number names 0)))) → Then w b (at c p base marks xs) (expressions.indexes callee (s w) abort i k)
     index-meets no_index p q h b base marks xs here fits few k m =
         λ f own le. subst (λ (place : ℕ). (K w) f own (Finish (at c place base marks xs own)) (k 0)) (sym h)
         (subst (λ (ys : List ℕ). (K w) f own (Finish (at c q base marks ys own)) (k 0)) (append-nil xs) (m [] refl f own le))
     index-meets (index e) p q h b base marks xs here fits few k m = evaluates-meets e p q h b base marks xs here fits few k (λ value. m (value ∷ []) refl)
 
-    bits-meets : (register : ℕ) (x : Bits) (p q : ℕ) → standing.BitsAt t x p q → (b base : ℕ) (marks : List Mark) (xs : List ℕ) → Stands w b base marks xs → length xs + (bits_depth w) x ≤ (room w) → length marks + height_in_bits x ≤ (marked w) → (k : Location → Rest) →
+    bits-meets : (register : ℕ) (x : Bits) (p q : ℕ) → standing.BitsAt t x p q → (b base : ℕ) (marks : List CallMark) (xs : List ℕ) → Stands w b base marks xs → length xs + (bits_depth w) x ≤ (room w) → length marks + height_in_bits x ≤ (marked w) → (k : Location → Rest) →
         ((names : List ℕ) → length names ≡ bits_count x → Then w b (at c q base marks (xs ++ names)) (k (pins_in register x names))) → Then w b (at c p base marks xs) (expressions.selects callee (s w) abort register x k)
     bits-meets register whole p q h b base marks xs here fits few k m =
         λ f own le. subst (λ (place : ℕ). (K w) f own (Finish (at c place base marks xs own)) (k (Pins register 31 0))) (sym h)
@@ -135,7 +135,7 @@ module _ (w : Working) where
         (λ high. evaluates-meets d h.0 q h.2 b base marks (xs ++ high ∷ []) (up w here high) (omega (arith, fits, (longer w) xs high)) (omega (arith, few)) (λ last. k (Pins register (high % 32) (last % 32)))
         (λ last f own le. subst (λ (ys : List ℕ). (K w) f own (Finish (at c q base marks ys own)) (k (Pins register (high % 32) (last % 32)))) (sym (append_assoc xs (high ∷ []) (last ∷ []))) (m (high ∷ last ∷ []) refl f own le)))
 
-    pub values-meets : (es : Trees) (p q : ℕ) → standing.ValuesAt t es p q → (b base : ℕ) (marks : List Mark) (xs : List ℕ) → Stands w b base marks xs → length xs + (trees_depth w) es ≤ (room w) → length marks + height_of_trees es ≤ (marked w) → (k : List ℕ → Rest) →
+    pub values-meets : (es : Trees) (p q : ℕ) → standing.ValuesAt t es p q → (b base : ℕ) (marks : List CallMark) (xs : List ℕ) → Stands w b base marks xs → length xs + (trees_depth w) es ≤ (room w) → length marks + height_of_trees es ≤ (marked w) → (k : List ℕ → Rest) →
         ((values : List ℕ) → length values ≡ count_of_trees es → Then w b (at c q base marks (xs ++ values)) (k values)) → Then w b (at c p base marks xs) (expressions.evaluates_all callee (s w) abort es k)
     values-meets no_trees p q h b base marks xs here fits few k m =
         λ f own le. subst (λ (place : ℕ). (K w) f own (Finish (at c place base marks xs own)) (k [])) (sym h)
@@ -146,7 +146,7 @@ module _ (w : Working) where
         (λ value f own le. subst (λ (ys : List ℕ). (K w) f own (Finish (at c q base marks ys own)) (k (values ++ value ∷ []))) (sym (append_assoc xs values (value ∷ [])))
         (m (values ++ value ∷ []) (length-append values (value ∷ []) ∙ ap (λ n. n + 1) is ∙ sym (length-append (tree_list es) (e ∷ []))) f own le)))
 
-    looks-meet : (goes : Bool) (wanted : ℕ) (items : Items) (target p q : ℕ) → standing.LooksAt t goes items target p q → (b base : ℕ) (marks : List Mark) (xs : List ℕ) → Stands w b base marks xs → length xs + (2 + (items_depth w) items) ≤ (room w) → length marks + height_of_items items ≤ (marked w) → (found none : ℕ → Rest) →
+    looks-meet : (goes : Bool) (wanted : ℕ) (items : Items) (target p q : ℕ) → standing.LooksAt t goes items target p q → (b base : ℕ) (marks : List CallMark) (xs : List ℕ) → Stands w b base marks xs → length xs + (2 + (items_depth w) items) ≤ (room w) → length marks + height_of_items items ≤ (marked w) → (found none : ℕ → Rest) →
         ((value : ℕ) → Then w b (at c target base marks (xs ++ value ∷ [])) (found value)) → ((count : ℕ) → Then w b (at c q base marks ((xs ++ wanted ∷ []) ++ count ∷ [])) (none count)) →
         (count : ℕ) → Then w b (at c p base marks ((xs ++ wanted ∷ []) ++ count ∷ [])) (expressions.looks callee (s w) abort goes wanted items found none count)
     looks-meet goes wanted no_items target p q h b base marks xs here fits few found none m n =
@@ -155,7 +155,7 @@ module _ (w : Working) where
         looks-meet goes wanted items target p h.0 h.1 b base marks xs here (omega (arith, fits)) (omega (arith, few)) found (expressions.looks_at callee (s w) abort goes wanted item found none) m
         (λ count. look-meets goes wanted item target h.0 q h.2 b base marks xs here (omega (arith, fits)) (omega (arith, few)) found none m n count)
 
-    look-meets : (goes : Bool) (wanted : ℕ) (item : Item) (target p q : ℕ) → standing.LookAt t goes item target p q → (b base : ℕ) (marks : List Mark) (xs : List ℕ) → Stands w b base marks xs → length xs + (2 + (item_depth w) item) ≤ (room w) → length marks + height_of_item item ≤ (marked w) → (found none : ℕ → Rest) →
+    look-meets : (goes : Bool) (wanted : ℕ) (item : Item) (target p q : ℕ) → standing.LookAt t goes item target p q → (b base : ℕ) (marks : List CallMark) (xs : List ℕ) → Stands w b base marks xs → length xs + (2 + (item_depth w) item) ≤ (room w) → length marks + height_of_item item ≤ (marked w) → (found none : ℕ → Rest) →
         ((value : ℕ) → Then w b (at c target base marks (xs ++ value ∷ [])) (found value)) → ((count : ℕ) → Then w b (at c q base marks ((xs ++ wanted ∷ []) ++ count ∷ [])) (none count)) →
         (count : ℕ) → Then w b (at c p base marks ((xs ++ wanted ∷ []) ++ count ∷ [])) (expressions.looks_at callee (s w) abort goes wanted item found none count)
     look-meets goes wanted (single e) target p q h b base marks xs here fits few found none m n =
@@ -168,7 +168,7 @@ module _ (w : Working) where
         (λ high f own le. by-four t.memory t.cog t.table t.hand c h.1 q base marks xs own here.low.low f (expressions.tries_range goes wanted count low high found none) 2 (standing.tries_both goes target) h.4 wanted count low high (omega (arith, fits, (fits_stack w)))
         (both-tried w wanted count goes low high target q base marks xs f own found none (λ x. m x f own le) (λ x. n x f own le))))
 
-    pub built-meets : (used : Bool) (code : ℕ) (es : Trees) (p q : ℕ) → standing.BuiltAt t used code es p q → (b base : ℕ) (marks : List Mark) (xs : List ℕ) → Stands w b base marks xs → length xs + max 1 (built_depth w code es) ≤ (room w) → length marks + height_of_trees es ≤ (marked w) → (k : ℕ → Rest) →
+    pub built-meets : (used : Bool) (code : ℕ) (es : Trees) (p q : ℕ) → standing.BuiltAt t used code es p q → (b base : ℕ) (marks : List CallMark) (xs : List ℕ) → Stands w b base marks xs → length xs + max 1 (built_depth w code es) ≤ (room w) → length marks + height_of_trees es ≤ (marked w) → (k : ℕ → Rest) →
         ((value : ℕ) → Then w b (at c q base marks (left_on used xs value)) (k value)) → Then w b (at c p base marks xs) (expressions.does callee (s w) abort code es k)
     built-meets used code no_trees p q h b base marks xs here fits few k m = none-meets w q base marks xs here.low.low (omega (arith, fits, (fits_stack w))) b used code p h k m
     built-meets used code (no_trees ▷ e) p q h b base marks xs here fits few k m =
@@ -200,7 +200,7 @@ module _ (w : Working) where
         (λ z. three-meets w q base marks xs here.low.low (omega (arith, deep, (fits_stack w))) b used code h1.2 x y z h1.6 k m))))
     built-meets used code (es ▷ a ▷ e ▷ d ▷ r) p q h b base marks xs here fits few k m = absurd h
 
-    begins-meets : (used : Bool) (id : ℕ) (e : Tree) (first second : Tree) (deep high : ℕ) (b base : ℕ) (marks : List Mark) → Gives_at w b base marks deep (standing.ValueAt t first) (expressions.evaluates callee (s w) abort first) → Gives_at w b base marks high (standing.ValueAt t second) (expressions.evaluates callee (s w) abort second) →
+    begins-meets : (used : Bool) (id : ℕ) (e : Tree) (first second : Tree) (deep high : ℕ) (b base : ℕ) (marks : List CallMark) → Gives_at w b base marks deep (standing.ValueAt t first) (expressions.evaluates callee (s w) abort first) → Gives_at w b base marks high (standing.ValueAt t second) (expressions.evaluates callee (s w) abort second) →
         (p q : ℕ) → standing.BeginsAt t used e (standing.ValueAt t first) (standing.ValueAt t second) p q → (xs : List ℕ) → Stands w b base marks xs → length xs + (1 + (begun_depth w) e deep high) ≤ (room w) → length marks + height e ≤ (marked w) → (k : ℕ → Rest) →
         ((value : ℕ) → Then w b (at c q base marks (left_on used xs value)) (k value)) → Then w b (at c p base marks (xs ++ id ∷ [])) (expressions.begins callee (s w) abort id e (expressions.evaluates callee (s w) abort first) (expressions.evaluates callee (s w) abort second) k)
     begins-meets used id (node place (Call false None i name inside arguments)) first second deep high b base marks m n p q h xs here fits few k goes =

@@ -20,7 +20,7 @@ use Rattle.p8_kinds.specs.declared.name_kinds.NameKind.TheVariants as kind_case
 use Rattle.p8_tree.specs.Proper.{AreProperStatements}
 use Rattle.p8_bytecode.specs.Table.{rows}
 use Rattle.p8_bytecode.specs.Reading.{bare}
-use Rattle.p8_bcog.specs.declared.place.Place.TheVariants as place_case
+use Rattle.p8_bcog.specs.declared.variable_place.VariablePlace.TheVariants as place_case
 use Rattle.p8_bcog.specs.declared.step.Wanted.TheVariants as wanted_case
 use Rattle.p8_bcog.specs.Calls as calling
 use Rattle.p8_bcog.specs.Operands.{operand, taken, tested}

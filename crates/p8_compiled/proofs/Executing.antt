@@ -9,8 +9,8 @@ use Rattle.p8_tree.specs.Heights.{height}
 use Rattle.p8_tree.specs.Proper.{IfThere, IsProperExpression, IsDone, IsProperTest, AreProperTests, IsProperCourse, IsProperStatement, AreProperStatements, AreProperArms, AreProperChoices, IsProperOtherwise}
 use Rattle.p8_tree.specs.Expressions.{Tree, node, Number, Str, Strings, Here, Var, Call, Unary, Binary, Assign, Change, Address, ObjectAddress, ObjConst, Built, Look, Variable, Named, Part, Memory, Register, no_index, index, Item, single, range, Items, no_items, ◌▸◌}
 use Rattle.p8_tree.specs.Statements.{Course as Loop, Forever, Count, Before, After, From, Statement, statement, Action, Do, If, Case, Repeat, Next, Quit, Return, Abort, arm, Otherwise, nothing_else, otherwise, Statements, no_statements, ◌▹◌, Arms, no_arms, ◌⊳◌}
-use Rattle.p8_bcog.specs.declared.marks.Mark.{Mark}
-use Rattle.p8_bcog.specs.declared.state.State.{State}
+use Rattle.p8_bcog.specs.declared.marks.CallMark.{CallMark}
+use Rattle.p8_bcog.specs.declared.state.SpinState.{SpinState}
 use Rattle.p8_bcog.specs.declared.step.Wanted.TheVariants as wanted_case
 use Rattle.p8_bcog.specs.Operands.{pushed, is_between, difference}
 use Rattle.p8_bcog.specs.Newest.{trapping}
@@ -27,7 +27,7 @@ use Rattle.p8_compiled.specs.Courses.{takes_one, takes_two, takes_three, goes_to
 use Rattle.p8_compiled.specs.Depths as depths
 use Rattle.p8_compiled.specs.Depths.{held_by}
 use Rattle.p8_compiled.specs.Standing as standing
-use Rattle.p8_compiled.specs.Standing.{At, on, site}
+use Rattle.p8_compiled.specs.Standing.{At, with_hand, site}
 use Rattle.p8_compiled.specs.Bodies as bodies
 use Rattle.p8_compiled.specs.Bodies.{Inner, outside, plain, with_count}
 use Rattle.p8_bcog.specs.Replay.{engine_of}
@@ -95,20 +95,20 @@ module _ (w : Working) where
   depth-positive (node place (Look code e items)) = omega arith
 
   -- a state between statements
-  abbrev pub St : (p : ℕ) (xs : List ℕ) → Registers → State
+  abbrev pub St : (p : ℕ) (xs : List ℕ) → Registers → SpinState
   St p xs own = at c p (length g.stack) g.marks xs own
 
   abbrev pub Fine : (b : ℕ) (xs : List ℕ) → Type 0
   Fine b xs = Stands w b (length g.stack) g.marks xs
 
   -- what follows a jump that pays for one of the bound
-  abbrev pub Paid : (b : ℕ) → (Registers → State) → Rest → Type 0
+  abbrev pub Paid : (b : ℕ) → (Registers → SpinState) → Rest → Type 0
   Paid b state r = (f : ℕ) (own : Registers) → f ≤ b → M t.memory t.cog t.table t.hand (less f) (Finish (state own)) (r f (record own { statement = t.hand }))
 
-  pub paid : (b : ℕ) (state : Registers → State) (r : Rest) → Then w b state r → Paid b state r
+  pub paid : (b : ℕ) (state : Registers → SpinState) (r : Rest) → Then w b state r → Paid b state r
   paid b state r m f own le = weaken (E w) (less-le f) (m f own le).meets
 
-  pub lesser_bound : {b d : ℕ} {state : Registers → State} (r : Rest) → d ≤ b → Then w b state r → Then w d state r
+  pub lesser_bound : {b d : ℕ} {state : Registers → SpinState} (r : Rest) → d ≤ b → Then w b state r → Then w d state r
   lesser_bound r within m f own le = m f own (omega (arith, le, within))
 
   -- what follows NEXT and QUIT
@@ -154,7 +154,7 @@ module _ (w : Working) where
   -- ---- expressions alone
 
   unused-back : (q : ℕ) (xs : List ℕ) (b : ℕ) (stops : Bool) (r : Rest) → Then w b (St q xs) r →
-      (hand : Place) (f : ℕ) (own : Registers) → f ≤ b → (returned : Returned) (given : Option ℕ) (st : State) → Above c.par xs g.marks own st → GivesBack returned st given →
+      (hand : Place) (f : ℕ) (own : Registers) → f ≤ b → (returned : Returned) (given : Option ℕ) (st : SpinState) → Above c.par xs g.marks own st → GivesBack returned st given →
       F t.memory t.cog t.table hand f own (calling.goes_back given (called c q (length g.stack) (length xs) (length g.marks) true stops) c.calls st) (for_statement t.hand r)
   unused-back q xs b stops r m hand f own le returned given st above is =
       back-unused t.memory t.cog t.table hand c q (length g.stack) xs g.marks stops f own given st (for_statement t.hand r) above (goes-back (engine_of t.memory t.cog) (λ s place. Contains t.table (s.at, place)) t.hand r hand (m f own le))
@@ -179,7 +179,7 @@ module _ (w : Working) where
       (subst (λ n. standing.OwnCallAt t (t.file.kind t.method name) n h.1 q) (sym is) h.4))))
   act-meets (node place (Call stops (Some object) i name inside arguments)) p q h low b xs here fits k m =
       let high : length g.marks ≤ marked w = omega (arith, few_marks) in
-      let mark : Mark = mark_of w (length g.stack) true stops in
+      let mark : CallMark = mark_of w (length g.stack) true stops in
       let under : Stands w b (length xs) (mark ∷ g.marks) xs = record { low = opened-low here.low mark; within = here.within } in
       let does : Rest → Rest = λ go. expressions.makes_call callee (s w) abort stops (Some object) name (expressions.evaluates_all callee (s w) abort arguments) (expressions.indexes callee (s w) abort i) (λ x. go) in
       backs w b (St p xs) (λ back. does (back k)) (
@@ -220,7 +220,7 @@ module _ (w : Working) where
   pub value-meets : (e : Tree) (p q : ℕ) → standing.ValueAt t e p q → height e ≤ 64 → (b : ℕ) (xs : List ℕ) → Fine b xs → length xs + depth e ≤ room w → (k : ℕ → Rest) → ((value : ℕ) → Then w b (St q (xs ++ value ∷ [])) (k value)) → Then w b (St p xs) (expressions.evaluates callee (s w) abort e k)
   value-meets e p q h low b xs here fits k m = evaluates-meets w e p q h b (length g.stack) g.marks xs here fits (omega (arith, low, few_marks)) k m
 
-  finish-if : (so : Bool) (f : ℕ) (own : Registers) (x y : State) (r u : Rest) → K w f own (Finish x) r → K w f own (Finish y) u → K w f own (Finish (if so then x else y)) (if so then r else u)
+  finish-if : (so : Bool) (f : ℕ) (own : Registers) (x y : SpinState) (r u : Rest) → K w f own (Finish x) r → K w f own (Finish y) u → K w f own (Finish (if so then x else y)) (if so then r else u)
   finish-if true f own x y r u m n = m
   finish-if false f own x y r u m n = n
 
@@ -258,11 +258,11 @@ module _ (w : Working) where
 
     -- ---- loops
 
-    again-paid : (state : Registers → State) (r : Rest) (b : ℕ) → ((f : ℕ) (own : Registers) → suc f ≤ b → K w f own (Finish (state own)) r) → Paid b state (costs r)
+    again-paid : (state : Registers → SpinState) (r : Rest) (b : ℕ) → ((f : ℕ) (own : Registers) → suc f ≤ b → K w f own (Finish (state own)) r) → Paid b state (costs r)
     again-paid state r b m zero own le = meets-untold (E w) (state own)
     again-paid state r b m (suc f) own le = (m f own le).meets
 
-    passes-meet : (state : Registers → State) (pass : Rest → Rest) (b : ℕ) → ((again : Rest) (d : ℕ) → d ≤ b → Paid d state again → Then w d state (pass again)) → (n : ℕ) (f : ℕ) (own : Registers) → f < n → f ≤ b → K w f own (Finish (state own)) (passes n pass)
+    passes-meet : (state : Registers → SpinState) (pass : Rest → Rest) (b : ℕ) → ((again : Rest) (d : ℕ) → d ≤ b → Paid d state again → Then w d state (pass again)) → (n : ℕ) (f : ℕ) (own : Registers) → f < n → f ≤ b → K w f own (Finish (state own)) (passes n pass)
     passes-meet state pass b m zero f own lt le = absurd (omega (arith, lt))
     passes-meet state pass b m (suc n) f own lt le =
         record {
@@ -287,7 +287,7 @@ module _ (w : Working) where
     more-meets p2 p3 q h b xs here fits n more is r m (suc f) own le = record {
       meets =
           pays t.memory t.cog t.table t.hand c p3 q (length g.stack) g.marks (takes_one 1 (bodies.ends_loop p2)) h (xs ++ n ∷ []) own (suc f) (r f (record own { statement = t.hand }))
-          (subst (λ (d : Course State). M t.memory t.cog t.table t.hand f d (r f (record own { statement = t.hand }))) (sym (one-is (St q (xs ++ n ∷ []) own) xs n 1 (bodies.ends_loop p2) (refl, here.low.low, fits)
+          (subst (λ (d : Course SpinState). M t.memory t.cog t.table t.hand f d (r f (record own { statement = t.hand }))) (sym (one-is (St q (xs ++ n ∷ []) own) xs n 1 (bodies.ends_loop p2) (refl, here.low.low, fits)
           ∙ ap (λ (left : ℕ). Finish (if left == 0 then St q xs own else St p2 (xs ++ left ∷ []) own)) is
           ∙ ap (λ (so : Bool). Finish (if so then St q xs own else St p2 (xs ++ suc more ∷ []) own)) (not_zero more))) (m f own le).meets);
     }
@@ -331,7 +331,7 @@ module _ (w : Working) where
           (λ y f own le. record {
             meets =
                 pays t.memory t.cog t.table t.hand c h.1 q (length g.stack) g.marks (takes_two 0 (bodies.steps_by_one t v target)) h.4 ((xs ++ x ∷ []) ++ y ∷ []) own f _
-                (subst (λ (d : Course State). M t.memory t.cog t.table t.hand (less f) d (statements.steps most_passes callee (s w) return abort counter 1 x y again k f (record own { statement = t.hand }))) (sym (two-is (St q ((xs ++ x ∷ []) ++ y ∷ []) own) xs x y 0 (bodies.steps_by_one t v target) (append_assoc xs (x ∷ []) (y ∷ []), here.low.low, fits)))
+                (subst (λ (d : Course SpinState). M t.memory t.cog t.table t.hand (less f) d (statements.steps most_passes callee (s w) return abort counter 1 x y again k f (record own { statement = t.hand }))) (sym (two-is (St q ((xs ++ x ∷ []) ++ y ∷ []) own) xs x y 0 (bodies.steps_by_one t v target) (append_assoc xs (x ∷ []) (y ∷ []), here.low.low, fits)))
                 (steps-follow 1 x y f own le).meets);
           }))
       pass_ends-meet from to (Some e) p h low high proper deep =
@@ -341,14 +341,14 @@ module _ (w : Working) where
           (λ y f own le. record {
             meets =
                 pays t.memory t.cog t.table t.hand c h.2 q (length g.stack) g.marks (takes_three 0 (bodies.steps_by t v target)) h.6 (((xs ++ by ∷ []) ++ x ∷ []) ++ y ∷ []) own f _
-                (subst (λ (d : Course State). M t.memory t.cog t.table t.hand (less f) d (statements.steps most_passes callee (s w) return abort counter by x y again k f (record own { statement = t.hand })))
+                (subst (λ (d : Course SpinState). M t.memory t.cog t.table t.hand (less f) d (statements.steps most_passes callee (s w) return abort counter by x y again k f (record own { statement = t.hand })))
                 (sym (three-is (St q (((xs ++ by ∷ []) ++ x ∷ []) ++ y ∷ []) own) xs by x y 0 (bodies.steps_by t v target) (append_assoc (xs ++ by ∷ []) (x ∷ []) (y ∷ []) ∙ append_assoc xs (by ∷ []) (x ∷ y ∷ []), here.low.low, fits)))
                 (steps-follow by x y f own le).meets);
           })))
 
     -- ---- loops
 
-    m-if : (so : Bool) (count f : ℕ) (own : Registers) (x y : State) (r u : Rest) → M t.memory t.cog t.table t.hand count (Finish x) (r f (record own { statement = t.hand })) → M t.memory t.cog t.table t.hand count (Finish y) (u f (record own { statement = t.hand })) → M t.memory t.cog t.table t.hand count (Finish (if so then x else y)) ((if so then r else u) f (record own { statement = t.hand }))
+    m-if : (so : Bool) (count f : ℕ) (own : Registers) (x y : SpinState) (r u : Rest) → M t.memory t.cog t.table t.hand count (Finish x) (r f (record own { statement = t.hand })) → M t.memory t.cog t.table t.hand count (Finish y) (u f (record own { statement = t.hand })) → M t.memory t.cog t.table t.hand count (Finish (if so then x else y)) ((if so then r else u) f (record own { statement = t.hand }))
     m-if true count f own x y r u m n = m
     m-if false count f own x y r u m n = n
 
@@ -359,7 +359,7 @@ module _ (w : Working) where
         value-meets e p p1 h low b xs here (omega (arith, fits)) (λ value. if holds until value then again else k)
         (λ value f own le. record {
           meets = pays t.memory t.cog t.table t.hand c p1 q (length g.stack) g.marks (takes_one 0 (bodies.jumps_where until target)) jump (xs ++ value ∷ []) own f ((if holds until value then again else k) f (record own { statement = t.hand }))
-              (subst (λ (d : Course State). M t.memory t.cog t.table t.hand (less f) d ((if holds until value then again else k) f (record own { statement = t.hand }))) (sym (one-is (St q (xs ++ value ∷ []) own) xs value 0 (bodies.jumps_where until target) (refl, here.low.low, omega (arith, fits, fits_stack w))))
+              (subst (λ (d : Course SpinState). M t.memory t.cog t.table t.hand (less f) d ((if holds until value then again else k) f (record own { statement = t.hand }))) (sym (one-is (St q (xs ++ value ∷ []) own) xs value 0 (bodies.jumps_where until target) (refl, here.low.low, omega (arith, fits, fits_stack w))))
               (m-if (holds until value) (less f) f own (St target xs own) (St q xs own) again k (jumps f own le) (paid b (St q xs) k m f own le)));
         })
 
@@ -471,7 +471,7 @@ module _ (w : Working) where
 
 -- a method at work on a statement
 abbrev pub at_work : Working → Place → Working
-at_work v hand = record v { t = on v.t hand }
+at_work v hand = record v { t = with_hand v.t hand }
 
 module _ (v : Working) (most_passes : ℕ) (return : Returned → Rest) (enough : v.top < most_passes) (returns : Returns v.t.memory v.t.cog v.t.table v.top v.c.calls v.c.par v.g.stack v.g.marks return) where
   open v use {t, c, callee, abort, g, top}

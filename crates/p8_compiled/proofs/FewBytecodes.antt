@@ -16,7 +16,7 @@ use Rattle.p8_access.specs.Replaying.{after-ends, asked-from}
 use Rattle.p8_access.specs.Timing.{Outcome, Asks, Goes, Ends, played}
 use Rattle.p8_access.specs.Worlds.{World}
 use Rattle.p8_access.proofs.Nexts.{due-late, some-injective}
-use Rattle.p8_bcog.specs.declared.state.State.{State}
+use Rattle.p8_bcog.specs.declared.state.SpinState.{SpinState}
 use Rattle.p8_bcog.specs.Replay.{engine_of, enters_at, first_of, lived}
 use Rattle.p8_cog.specs.Lives.{asks}
 use Rattle.p8_meaning.specs.Programs.{Program, Addresses}
@@ -68,7 +68,7 @@ module _ (program : Program) (addresses : Addresses) (w : World) (world : IsWorl
   turns = since_begin past turn.key.cog
 
   abbrev AreFew : Entered → Type 0
-  AreFew entered = (entered.memory ≡ w.memory) × ((done : ℕ) (s : State) (begin : ℕ) (left : List Turn) → lived done entered turns ≡ Goes s begin left → done < w.clocks)
+  AreFew entered = (entered.memory ≡ w.memory) × ((done : ℕ) (s : SpinState) (begin : ℕ) (left : List Turn) → lived done entered turns ≡ Goes s begin left → done < w.clocks)
 
   few-by : (origin : Origin) (run : Runs_in program addresses w world code past turn.key.cog origin) → IsNextRunning asks w past turn.key.cog turn.key.clock turn.access → (entered : Entered) → begun_at w turn.key.cog run.clock origin ≡ SpinBegun entered → AreFew entered
   few-by (Pasm pcode par) run next entered is = absurd (cc)

@@ -10,8 +10,8 @@ use Rattle.p8_tree.specs.Expressions.{Tree, Variable, Named, Part, Memory, Regis
 use Rattle.p8_words.specs.Operators.{unary_value, unary_values, binary_value}
 use Rattle.p8_kinds.specs.declared.name_kinds.NameKind.{NameKind}
 use Rattle.p8_kinds.specs.declared.name_kinds.NameKind.TheVariants as kind_case
-use Rattle.p8_bcog.specs.declared.marks.Mark.{Mark}
-use Rattle.p8_bcog.specs.declared.state.State.{State}
+use Rattle.p8_bcog.specs.declared.marks.CallMark.{CallMark}
+use Rattle.p8_bcog.specs.declared.state.SpinState.{SpinState}
 use Rattle.p8_bcog.specs.declared.step.Wanted.TheVariants as wanted_case
 use Rattle.p8_bcog.specs.Operands.{left_by}
 use Rattle.p8_access.specs.declared.kinds.Origin.TheVariants as origin_case
@@ -53,7 +53,7 @@ use Rattle.p8_compiled.proofs.Stepping.{engine, F, by, by-course, by-gives, by-n
 leaves-is : (effect : ℕ) (used : Bool) (value : ℕ) → nat_le 128 effect ≡ used → places.left_of effect value ≡ if_used used value
 leaves-is effect used value is = ap (λ (b : Bool). if b then Some value else None) is
 
-operation-is : {effect operator : ℕ} {used : Bool} → IsOperation effect used operator → (where_is : Location) (value right : ℕ) (st : State) →
+operation-is : {effect operator : ℕ} {used : Bool} → IsOperation effect used operator → (where_is : Location) (value right : ℕ) (st : SpinState) →
     places.uses (wanted_case.Changed effect right) (place_of where_is) value st ≡ places.writes_place (place_of where_is) (binary_value operator value right) (if_used used (reduced where_is (binary_value operator value right))) st
 unfolding places.uses
 operation-is {effect} {operator} {used} is where_is value right st =
@@ -61,7 +61,7 @@ operation-is {effect} {operator} {used} is where_is value right st =
     (ap₂ (λ (b : Bool) x. places.left_of effect (places.reduced (place_of where_is) (if b then value else x))) is.old (is.updates value right)
     ∙ ap (places.left_of effect) (reduced-is where_is _) ∙ leaves-is effect used _ is.leaves)
 
-change-is : {effect change : ℕ} {used : Bool} → IsEffect effect used change → (where_is : Location) (value : ℕ) (st : State) →
+change-is : {effect change : ℕ} {used : Bool} → IsEffect effect used change → (where_is : Location) (value : ℕ) (st : SpinState) →
     places.uses (wanted_case.Changed effect 0) (place_of where_is) value st ≡ places.writes_place (place_of where_is) (changed change value) (if_used used (reduced where_is (if gives_old change then value else changed change value))) st
 unfolding places.uses
 change-is {effect} {change} {used} is where_is value st =
@@ -131,32 +131,32 @@ module _ (w : Working) where
   fits_marks = omega (arith, begun.few)
 
   -- where the method is, with a bound that is small enough
-  pub record Stands (b base : ℕ) (marks : List Mark) (xs : List ℕ) : Type 0 where
+  pub record Stands (b base : ℕ) (marks : List CallMark) (xs : List ℕ) : Type 0 where
     pub low : Low g base marks xs
     pub within : b ≤ top
 
-  pub up : {b base : ℕ} {marks : List Mark} {xs : List ℕ} → Stands b base marks xs → (value : ℕ) → Stands b base marks (xs ++ value ∷ [])
+  pub up : {b base : ℕ} {marks : List CallMark} {xs : List ℕ} → Stands b base marks xs → (value : ℕ) → Stands b base marks (xs ++ value ∷ [])
   up here value = record { low = raise here.low value; within = here.within }
 
   -- the scope of the method's body
   abbrev pub s : Scope
   s = standing.scope_of t (at c 0 0 [] [] cleared)
 
-  abbrev pub E : Reading State
+  abbrev pub E : Reading SpinState
   E = engine t.memory t.cog t.table t.hand
 
-  abbrev pub K : ℕ → Registers → Course State → Rest → Type 0
+  abbrev pub K : ℕ → Registers → Course SpinState → Rest → Type 0
   K f own d r = F t.memory t.cog t.table t.hand f own d r
 
   -- what a state follows, with each bound up to b
-  abbrev pub Then : (b : ℕ) → (Registers → State) → Rest → Type 0
+  abbrev pub Then : (b : ℕ) → (Registers → SpinState) → Rest → Type 0
   Then b state r = (f : ℕ) (own : Registers) → f ≤ b → K f own (Finish (state own)) r
 
   -- what comes back to the statement at hand
-  pub backs : (b : ℕ) (state : Registers → State) (does : (Rest → Rest) → Rest) → Then b state (does (for_statement t.hand)) → Then b state (comes_back does)
+  pub backs : (b : ℕ) (state : Registers → SpinState) (does : (Rest → Rest) → Rest) → Then b state (does (for_statement t.hand)) → Then b state (comes_back does)
   backs b state does m f own le = comes-back (engine_of t.memory t.cog) (λ s place. Contains t.table (s.at, place)) t.hand does (m f own le)
 
-  finish-left : (q base : ℕ) (marks : List Mark) (xs : List ℕ) (used : Bool) (value f : ℕ) (own : Registers) (r : Rest) → K f own (Finish (at c q base marks (left_on used xs value) own)) r → K f own (Finish (left_by (if_used used value) (at c q base marks xs own))) r
+  finish-left : (q base : ℕ) (marks : List CallMark) (xs : List ℕ) (used : Bool) (value f : ℕ) (own : Registers) (r : Rest) → K f own (Finish (at c q base marks (left_on used xs value) own)) r → K f own (Finish (left_by (if_used used value) (at c q base marks xs own))) r
   finish-left q base marks xs true value f own r m = m
   finish-left q base marks xs false value f own r m = m
 
@@ -178,7 +178,7 @@ module _ (w : Working) where
   can_read (Memory size e i place) h = tt
   can_read (Register register x place) h = readable register h
 
-  pub up_all : {b base : ℕ} {marks : List Mark} {xs : List ℕ} → Stands b base marks xs → (values : List ℕ) → Stands b base marks (xs ++ values)
+  pub up_all : {b base : ℕ} {marks : List CallMark} {xs : List ℕ} → Stands b base marks xs → (values : List ℕ) → Stands b base marks (xs ++ values)
   up_all {xs = xs} here values = record { low = raise_all here.low values; within = here.within }
 
   -- ---- calls
@@ -189,24 +189,24 @@ module _ (w : Working) where
   pub if-false : {X : Type 0} (so : Bool) (x y : X) → so ≡ false → (if so then x else y) ≡ y
   if-false so x y is = ap (λ (z : Bool). if z then x else y) is
 
-  abbrev pub mark_of : (base : ℕ) (unused traps : Bool) → Mark
+  abbrev pub mark_of : (base : ℕ) (unused traps : Bool) → CallMark
   mark_of base unused traps = record { outer = base; unused = unused; traps = traps }
 
-  pub opens-meets : (p q base : ℕ) (marks : List Mark) (xs : List ℕ) (unused traps : Bool) → standing.At t p (standing.opens unused traps) q → length marks < 16384 → (b : ℕ) (r : Rest) → Then b (at c q (length xs) (mark_of base unused traps ∷ marks) xs) r → Then b (at c p base marks xs) r
+  pub opens-meets : (p q base : ℕ) (marks : List CallMark) (xs : List ℕ) (unused traps : Bool) → standing.At t p (standing.opens unused traps) q → length marks < 16384 → (b : ℕ) (r : Rest) → Then b (at c q (length xs) (mark_of base unused traps ∷ marks) xs) r → Then b (at c p base marks xs) r
   opens-meets p q base marks xs unused traps h few b r m f own le =
       by-course t.memory t.cog t.table t.hand c p q base marks (standing.opens unused traps) h xs own f r (Finish (at c q (length xs) (mark_of base unused traps ∷ marks) xs own))
       (if-false (nat_le 16384 (length marks)) _ _ (lt-leb 16384 (length marks) few)) (m f own le)
 
-  has-mark : {base : ℕ} {marks : List Mark} {xs : List ℕ} → Low g base marks xs → nat_lt (calling.marks_below c.calls) (suc (length marks)) ≡ true
+  has-mark : {base : ℕ} {marks : List CallMark} {xs : List ℕ} → Low g base marks xs → nat_lt (calling.marks_below c.calls) (suc (length marks)) ≡ true
   has-mark {marks = marks} low = lt-ltb (calling.marks_below c.calls) (suc (length marks)) (omega (arith, begun.below, ap length low.marked ∙ length-append low.opened g.marks))
 
-  module _ (q base : ℕ) (marks : List Mark) (xs : List ℕ) (b : ℕ) (here : Stands b base marks xs) (values : length xs ≤ room) (opened : length marks ≤ marked) (unused stops : Bool) (return : Returned → Rest)
-      (back : (hand : Place) (f : ℕ) (own : Registers) → f ≤ b → (returned : Returned) (given : Option ℕ) (st : State) → Above c.par xs marks own st → GivesBack returned st given → F t.memory t.cog t.table hand f own (calling.goes_back given (called c q base (length xs) (length marks) unused stops) c.calls st) (return returned)) where
-    abbrev this_mark : Mark
+  module _ (q base : ℕ) (marks : List CallMark) (xs : List ℕ) (b : ℕ) (here : Stands b base marks xs) (values : length xs ≤ room) (opened : length marks ≤ marked) (unused stops : Bool) (return : Returned → Rest)
+      (back : (hand : Place) (f : ℕ) (own : Registers) → f ≤ b → (returned : Returned) (given : Option ℕ) (st : SpinState) → Above c.par xs marks own st → GivesBack returned st given → F t.memory t.cog t.table hand f own (calling.goes_back given (called c q base (length xs) (length marks) unused stops) c.calls st) (return returned)) where
+    abbrev this_mark : CallMark
     this_mark = mark_of base unused stops
 
     -- a bytecode that comes to the call of a method
-    target-meets : (p : ℕ) (course : State → Course State) → standing.At t p course q → (stack : List ℕ) → (target : Target) → IsInstance t.program t.addresses target.instance → (file : File) → slice_get t.program target.instance.file ≡ Some file → (tree : MethodTree) → method_of file target.method ≡ Some tree →
+    target-meets : (p : ℕ) (course : SpinState → Course SpinState) → standing.At t p course q → (stack : List ℕ) → (target : Target) → IsInstance t.program t.addresses target.instance → (file : File) → slice_get t.program target.instance.file ≡ Some file → (tree : MethodTree) → method_of file target.method ≡ Some tree →
         (arguments : List ℕ) → length arguments ≡ length tree.params →
         ((own : Registers) → course (at c q (length xs) (this_mark ∷ marks) stack own) ≡ calling.calls_method t.memory target.instance.base target.instance.variables target.method (at c q (length xs) (this_mark ∷ marks) (xs ++ arguments) own)) →
         Then b (at c p (length xs) (this_mark ∷ marks) stack) (calls callee s stops (Some target) arguments return abort)
@@ -242,13 +242,13 @@ module _ (w : Working) where
   target-is : (item place : ℕ) (name : List ℕ) (count n : ℕ) (o : standing.IsObjectMethod t item name count n) → object_target s item place name ≡ Some (target_at o.child n place)
   target-is item place name count n o = ap₂ (λ a d. target_of a d (λ file number. record { instance = instance_at t.addresses s.instance file place; method = number })) o.is_child o.is_named
 
-  module _ (q base : ℕ) (marks : List Mark) (xs : List ℕ) (b : ℕ) (here : Stands b base marks xs) (values : length xs ≤ room) (opened : length marks ≤ marked) (unused stops : Bool) (return : Returned → Rest)
-      (back : (hand : Place) (f : ℕ) (own : Registers) → f ≤ b → (returned : Returned) (given : Option ℕ) (st : State) → Above c.par xs marks own st → GivesBack returned st given → F t.memory t.cog t.table hand f own (calling.goes_back given (called c q base (length xs) (length marks) unused stops) c.calls st) (return returned))
+  module _ (q base : ℕ) (marks : List CallMark) (xs : List ℕ) (b : ℕ) (here : Stands b base marks xs) (values : length xs ≤ room) (opened : length marks ≤ marked) (unused stops : Bool) (return : Returned → Rest)
+      (back : (hand : Place) (f : ℕ) (own : Registers) → f ≤ b → (returned : Returned) (given : Option ℕ) (st : SpinState) → Above c.par xs marks own st → GivesBack returned st given → F t.memory t.cog t.table hand f own (calling.goes_back given (called c q base (length xs) (length marks) unused stops) c.calls st) (return returned))
       (object : List ℕ) (item position instances : ℕ) (kind : t.file.kind t.method object ≡ Some (kind_case.Object item position instances)) (name : List ℕ) (arguments : List ℕ) (full : length (xs ++ arguments) ≤ 16384) (n : ℕ) (o : standing.IsObjectMethod t item name (length arguments) n) where
-    abbrev the_mark : Mark
+    abbrev the_mark : CallMark
     the_mark = mark_of base unused stops
 
-    abbrev there : List ℕ → Registers → State
+    abbrev there : List ℕ → Registers → SpinState
     there stack own = at c q (length xs) (the_mark ∷ marks) stack own
 
     abbrev follows_at : ℕ → Rest
@@ -258,7 +258,7 @@ module _ (w : Working) where
       placed_there : ObjectPlaced t.memory t.cog t.program t.addresses s.instance (position + chosen) (instance_at t.addresses s.instance o.child (position + chosen))
       placed_there = placed.object s.instance is_instance t.file is_file t.method object item position instances kind chosen below o.child o.is_child
 
-      instance-meets : (p : ℕ) (course : State → Course State) → standing.At t p course q → (stack : List ℕ) → ((own : Registers) → course (there stack own) ≡ calling.calls_object t.memory (position + chosen) n (there (xs ++ arguments) own)) → Then b (at c p (length xs) (the_mark ∷ marks) stack) (follows_at chosen)
+      instance-meets : (p : ℕ) (course : SpinState → Course SpinState) → standing.At t p course q → (stack : List ℕ) → ((own : Registers) → course (there stack own) ≡ calling.calls_object t.memory (position + chosen) n (there (xs ++ arguments) own)) → Then b (at c p (length xs) (the_mark ∷ marks) stack) (follows_at chosen)
       unfolding calling.calls_object
       instance-meets p course h stack is =
           subst (λ (target : Option Target). Then b (at c p (length xs) (the_mark ∷ marks) stack) (calls callee s stops target arguments return abort)) (sym (target-is item (position + chosen) name (length arguments) n o))
@@ -266,7 +266,7 @@ module _ (w : Working) where
           (λ own. is own ∙ ap₂ (λ u v. calling.calls_method t.memory u v n (there (xs ++ arguments) own)) placed_there.base placed_there.variables))
 
     -- what the bytecode does with the index
-    abbrev picks : ℕ → State → Course State
+    abbrev picks : ℕ → SpinState → Course SpinState
     picks i st =
         if not (is_object t.memory st.pbase position && nat_lt i instances && is_object t.memory st.pbase (position + i)) then Stop Why.Table
         else calling.calls_object t.memory (position + i) n st
@@ -305,8 +305,8 @@ module _ (w : Working) where
     op-meets p (index e) (x ∷ y ∷ names) is h = absurd (omega (arith, is))
 
   -- the call of an object's method, by the kind of the object's name
-  pub object-meets : (q base : ℕ) (marks : List Mark) (xs : List ℕ) (b : ℕ) (here : Stands b base marks xs) (values : length xs ≤ room) (opened : length marks ≤ marked) (unused stops : Bool) (return : Returned → Rest)
-      (back : (hand : Place) (f : ℕ) (own : Registers) → f ≤ b → (returned : Returned) (given : Option ℕ) (st : State) → Above c.par xs marks own st → GivesBack returned st given → F t.memory t.cog t.table hand f own (calling.goes_back given (called c q base (length xs) (length marks) unused stops) c.calls st) (return returned))
+  pub object-meets : (q base : ℕ) (marks : List CallMark) (xs : List ℕ) (b : ℕ) (here : Stands b base marks xs) (values : length xs ≤ room) (opened : length marks ≤ marked) (unused stops : Bool) (return : Returned → Rest)
+      (back : (hand : Place) (f : ℕ) (own : Registers) → f ≤ b → (returned : Returned) (given : Option ℕ) (st : SpinState) → Above c.par xs marks own st → GivesBack returned st given → F t.memory t.cog t.table hand f own (calling.goes_back given (called c q base (length xs) (length marks) unused stops) c.calls st) (return returned))
       (object name : List ℕ) (arguments : List ℕ) (full : length (xs ++ arguments) ≤ 16384) (p : ℕ) (i : Index) (names : List ℕ) → length names ≡ index_count i → (kind : Option NameKind) → t.file.kind t.method object ≡ kind → standing.ObjectCallAt t kind i name (length arguments) p q →
       Then b (at c p (length xs) (mark_of base unused stops ∷ marks) ((xs ++ arguments) ++ names)) (expressions.calls_of_object callee s abort stops kind (index_in i (at_number names 0)) name arguments return)
   object-meets q base marks xs b here values opened unused stops return back object name arguments full p i names is (Some (kind_case.Object item position instances)) kind h =
@@ -318,18 +318,18 @@ module _ (w : Working) where
   object-meets q base marks xs b here values opened unused stops return back object name arguments full p i names is (Some (kind_case.Method n params)) kind h = absurd h
   object-meets q base marks xs b here values opened unused stops return back object name arguments full p i names is None kind h = absurd h
 
-  pub used-back : (q base : ℕ) (marks : List Mark) (xs : List ℕ) (b : ℕ) (stops : Bool) → length xs + 1 ≤ 16384 → (k : ℕ → Rest) → ((value : ℕ) → Then b (at c q base marks (xs ++ value ∷ [])) (k value)) →
-      (hand : Place) (f : ℕ) (own : Registers) → f ≤ b → (returned : Returned) (given : Option ℕ) (st : State) → Above c.par xs marks own st → GivesBack returned st given →
+  pub used-back : (q base : ℕ) (marks : List CallMark) (xs : List ℕ) (b : ℕ) (stops : Bool) → length xs + 1 ≤ 16384 → (k : ℕ → Rest) → ((value : ℕ) → Then b (at c q base marks (xs ++ value ∷ [])) (k value)) →
+      (hand : Place) (f : ℕ) (own : Registers) → f ≤ b → (returned : Returned) (given : Option ℕ) (st : SpinState) → Above c.par xs marks own st → GivesBack returned st given →
       F t.memory t.cog t.table hand f own (calling.goes_back given (called c q base (length xs) (length marks) false stops) c.calls st) (uses returned (λ value. for_statement t.hand (k value)))
   used-back q base marks xs b stops fits k m hand f own le returned given st above is =
       back-used t.memory t.cog t.table hand c q base xs marks stops fits f own returned given st (λ value. for_statement t.hand (k value)) above is
       (λ value. goes-back (engine_of t.memory t.cog) (λ s place. Contains t.table (s.at, place)) t.hand (k value) hand (m value f own le))
 
-  pub where-meets : (so : Bool) {A B : Type 0} (b : ℕ) (state : Registers → State) (r u : Rest) → WhereSo so A B → (A → Then b state r) → (B → Then b state u) → Then b state (if so then r else u)
+  pub where-meets : (so : Bool) {A B : Type 0} (b : ℕ) (state : Registers → SpinState) (r u : Rest) → WhereSo so A B → (A → Then b state r) → (B → Then b state u) → Then b state (if so then r else u)
   where-meets true b state r u h x y = x h
   where-meets false b state r u h x y = y h
 
-  module _ (p q base : ℕ) (marks : List Mark) (xs : List ℕ) (low : base ≤ length xs) (b : ℕ) where
+  module _ (p q base : ℕ) (marks : List CallMark) (xs : List ℕ) (low : base ≤ length xs) (b : ℕ) where
     -- a variable is read
     pub read-meets : length xs + 1 ≤ 16384 → (v : Variable) → HasRegister false v → standing.ReadAt t v p q → (names : List ℕ) → length names ≡ names_count v → (k : ℕ → Rest) →
         ((value : ℕ) → Then b (at c q base marks (xs ++ value ∷ [])) (k value)) → Then b (at c p base marks (xs ++ names)) (fetches s (site s v names) k)
@@ -348,7 +348,7 @@ module _ (w : Working) where
         let kept : ℕ → ℕ = λ value. reduced (site s v names) (new value) in
         by-value t.memory t.cog t.table t.hand c p q base marks xs own low f (assigns s (Some operator) (site s v names) right k) (names_count v) (leaves_if used) (standing.operates t h.0 v) h.2 right names is fits
         (follows-read E c q base marks xs s refl (wanted_case.Changed h.0 right) (site s v names) (there-is false v (can_read v there) names) f f own (λ value. stores (site s v names) (new value) (k (kept value)))
-        (λ value. subst (λ (d : Course State). K f own d (stores (site s v names) (new value) (k (kept value)))) (sym (operation-is h.1 (site s v names) value right (at c q base marks xs own)))
+        (λ value. subst (λ (d : Course SpinState). K f own d (stores (site s v names) (new value) (k (kept value)))) (sym (operation-is h.1 (site s v names) value right (at c q base marks xs own)))
         (follows-write E c q base marks xs (site s v names) (there-is true v there names) (new value) (if_used used (kept value)) f f own (k (kept value)) (λ o. finish-left q base marks xs used (kept value) f o (k (kept value)) (m (kept value) f o le)))))
 
     replace-meets : length xs + 1 ≤ 16384 → (v : Variable) → HasRegister true v → (value : ℕ) → standing.ReplaceAt t true value v p q → (names : List ℕ) → length names ≡ names_count v → (k : ℕ → Rest) →
@@ -374,7 +374,7 @@ module _ (w : Working) where
         let kept : ℕ → ℕ = λ old. reduced (site s v names) (if gives_old change then old else changed change old) in
         by-names t.memory t.cog t.table t.hand c p q base marks xs own low f (changes_to change (site s v names) k) (names_count v) (leaves_if used) (standing.updates t h.0 v) h.2 names is fits
         (follows-read E c q base marks xs s refl (wanted_case.Changed h.0 0) (site s v names) (there-is false v (can_read v there) names) f f own (λ old. stores (site s v names) (changed change old) (k (kept old)))
-        (λ old. subst (λ (d : Course State). K f own d (stores (site s v names) (changed change old) (k (kept old)))) (sym (change-is h.1 (site s v names) old (at c q base marks xs own)))
+        (λ old. subst (λ (d : Course SpinState). K f own d (stores (site s v names) (changed change old) (k (kept old)))) (sym (change-is h.1 (site s v names) old (at c q base marks xs own)))
         (follows-write E c q base marks xs (site s v names) (there-is true v there names) (changed change old) (if_used used (kept old)) f f own (k (kept old)) (λ o. finish-left q base marks xs used (kept old) f o (k (kept old)) (m (kept old) f o le)))))
 
     pub change-meets : length xs + 1 ≤ 16384 → (v : Variable) → HasRegister true v → (change : ℕ) → standing.ChangeAt t true change v p q → (names : List ℕ) → length names ≡ names_count v → (k : ℕ → Rest) →
@@ -428,18 +428,18 @@ module _ (w : Working) where
 
   -- ---- built-ins, by what lies on the stack
 
-  module _ (q base : ℕ) (marks : List Mark) (xs : List ℕ) (low : base ≤ length xs) (fits : length xs + 1 ≤ 16384) (b : ℕ) where
+  module _ (q base : ℕ) (marks : List CallMark) (xs : List ℕ) (low : base ≤ length xs) (fits : length xs + 1 ≤ 16384) (b : ℕ) where
     abbrev Leaves : (used : Bool) → (ℕ → Rest) → Type 0
     Leaves used k = (value : ℕ) → Then b (at c q base marks (left_on used xs value)) (k value)
 
     -- a value that is left, or dropped at once
-    kept-meets : (state : Registers → State) (r : Rest) (Ends : ℕ → Type 0) (k : ℕ → Rest) → ((e : ℕ) → Ends e → ((value : ℕ) → Then b (at c e base marks (xs ++ value ∷ [])) (k value)) → Then b state r) → (used : Bool) → standing.Kept t used Ends q → Leaves used k → Then b state r
+    kept-meets : (state : Registers → SpinState) (r : Rest) (Ends : ℕ → Type 0) (k : ℕ → Rest) → ((e : ℕ) → Ends e → ((value : ℕ) → Then b (at c e base marks (xs ++ value ∷ [])) (k value)) → Then b state r) → (used : Bool) → standing.Kept t used Ends q → Leaves used k → Then b state r
     kept-meets state r Ends k m true h n = m q h n
     kept-meets state r Ends k m false h n =
         m h.0 h.1 (λ value f own le. by-one t.memory t.cog t.table t.hand c h.0 q base marks xs own low f (k value) 0 drops h.2 value (omega (arith, fits)) (n value f own le))
 
     -- what leaves no value
-    no_value-meets : (state : Registers → State) (r : Rest) (used : Bool) {A : Type 0} → standing.Alone used A → (A → (used ≡ false) → Then b state r) → Then b state r
+    no_value-meets : (state : Registers → SpinState) (r : Rest) (used : Bool) {A : Type 0} → standing.Alone used A → (A → (used ≡ false) → Then b state r) → Then b state r
     no_value-meets state r true h m = absurd h
     no_value-meets state r false h m = m h refl
 
@@ -464,7 +464,7 @@ module _ (w : Working) where
 
     pub none-meets : (used : Bool) (code p : ℕ) → standing.NoneAt t used code p q → (k : ℕ → Rest) → Leaves used k → Then b (at c p base marks xs) (builtins.does_none code k)
     none-meets used code p h k n =
-        let state : Registers → State = at c p base marks xs in
+        let state : Registers → SpinState = at c p base marks xs in
         where-meets (code == 0x3F) b state (asks access_case.CogId k) (if code == 0xC0 then reads Long 0 k else if code == 0x80 then reads Byte 4 k else if code == 0x29 then asks access_case.LockNew k else untold) h
         (λ h0. kept-meets state (asks access_case.CogId k) (λ e. standing.At t p (takes_none 1 standing.cog_id) e) k (λ e h1 m f own le. by-none t.memory t.cog t.table t.hand c p e base marks xs own low f (asks access_case.CogId k) 1 standing.cog_id h1 fits (word-follows t.memory t.cog t.table t.hand c e base marks xs f own true access_case.CogId k (λ value. m value f own le))) used h0 n)
         (λ h2. where-meets (code == 0xC0) b state (reads Long 0 k) (if code == 0x80 then reads Byte 4 k else if code == 0x29 then asks access_case.LockNew k else untold) h2
@@ -477,7 +477,7 @@ module _ (w : Working) where
 
     pub one-meets : (used : Bool) (code p a : ℕ) → standing.OneAt t used code p q → (k : ℕ → Rest) → Leaves used k → Then b (at c p base marks (xs ++ a ∷ [])) (builtins.does_one code a k)
     one-meets used code p a h k n =
-        let state : Registers → State = at c p base marks (xs ++ a ∷ []) in
+        let state : Registers → SpinState = at c p base marks (xs ++ a ∷ []) in
         let text : Rest = builtins.measures (builtins.room_from (a % 2 ^ 16)) (a % 2 ^ 16) 0 k in
         let stops : Rest = tells (access_case.CogStop (a % 8)) (k 0) in
         let frees : Rest = tells (access_case.LockRet (a % 8)) (k 0) in
@@ -505,7 +505,7 @@ module _ (w : Working) where
 
     pub two-meets : (used : Bool) (code p x y : ℕ) → standing.TwoAt t used code p q → (k : ℕ → Rest) → Leaves used k → Then b (at c p base marks ((xs ++ x ∷ []) ++ y ∷ [])) (builtins.does_two code x y k)
     two-meets used code p x y h k n =
-        let state : Registers → State = at c p base marks ((xs ++ x ∷ []) ++ y ∷ []) in
+        let state : Registers → SpinState = at c p base marks ((xs ++ x ∷ []) ++ y ∷ []) in
         let texts : Rest = builtins.compares (builtins.room_from (x % 2 ^ 16)) (x % 2 ^ 16) (y % 2 ^ 16) k in
         where-meets (code == 0x17) b state texts untold h
         (λ h0. kept-meets state texts (λ e. standing.At t p (takes_two 1 standing.compares_texts) e) k (λ e h1 m f own le. by-two t.memory t.cog t.table t.hand c p e base marks xs own low f texts 1 standing.compares_texts h1 x y fits (compares-follow t.memory t.cog t.table t.hand c e base marks xs f own _ _ _ k (λ value. m value f own le))) used h0 n)
@@ -513,7 +513,7 @@ module _ (w : Working) where
 
     pub three-meets : (used : Bool) (code p x y z : ℕ) → standing.ThreeAt t used code p q → (k : ℕ → Rest) → Leaves used k → Then b (at c p base marks (((xs ++ x ∷ []) ++ y ∷ []) ++ z ∷ [])) (builtins.does_three code x y z k)
     three-meets used code p x y z h k n =
-        let state : Registers → State = at c p base marks (((xs ++ x ∷ []) ++ y ∷ []) ++ z ∷ []) in
+        let state : Registers → SpinState = at c p base marks (((xs ++ x ∷ []) ++ y ∷ []) ++ z ∷ []) in
         let fills : Width → Rest = λ width. builtins.fills width (x % 2 ^ 16) y (count_of z) (k 0) in
         let moves : Width → Rest = λ width. builtins.moves width (x % 2 ^ 16) (y % 2 ^ 16) (count_of z) (k 0) in
         let equal : Rest = builtins.waits_for z (test_case.PinsEqual x y) (k 0) in
@@ -574,23 +574,23 @@ module _ (w : Working) where
     start-meets used None p id arguments stack h k m = absurd h
 
   -- a choice that heights depend on
-  pub where-deep : (so : Bool) {A B : Type 0} (x y : ℕ) (xs : List ℕ) (b : ℕ) (state : Registers → State) (r u : Rest) → length xs + max 1 (if so then x else y) ≤ room → WhereSo so A B → (A → length xs + max 1 x ≤ room → Then b state r) → (B → length xs + max 1 y ≤ room → Then b state u) → Then b state (if so then r else u)
+  pub where-deep : (so : Bool) {A B : Type 0} (x y : ℕ) (xs : List ℕ) (b : ℕ) (state : Registers → SpinState) (r u : Rest) → length xs + max 1 (if so then x else y) ≤ room → WhereSo so A B → (A → length xs + max 1 x ≤ room → Then b state r) → (B → length xs + max 1 y ≤ room → Then b state u) → Then b state (if so then r else u)
   where-deep true x y xs b state r u fits h m n = m h fits
   where-deep false x y xs b state r u fits h m n = n h fits
 
   -- what gives a value, by where its code stands
-  abbrev pub Gives_at : (b base : ℕ) (marks : List Mark) (deep : ℕ) → ((p q : ℕ) → Type 0) → Gives ℕ → Type 0
+  abbrev pub Gives_at : (b base : ℕ) (marks : List CallMark) (deep : ℕ) → ((p q : ℕ) → Type 0) → Gives ℕ → Type 0
   Gives_at b base marks deep At_place gives =
       (p q : ℕ) → At_place p q → (xs : List ℕ) → Stands b base marks xs → length xs + deep ≤ room → (k : ℕ → Rest) → ((value : ℕ) → Then b (at c q base marks (xs ++ value ∷ [])) (k value)) → Then b (at c p base marks xs) (gives k)
 
-  pub begun_pasm-meets : (b base : ℕ) (marks : List Mark) (used : Bool) (id : ℕ) (First Second : (p q : ℕ) → Type 0) (first second : Gives ℕ) (deep high : ℕ) → Gives_at b base marks deep First first → Gives_at b base marks high Second second →
+  pub begun_pasm-meets : (b base : ℕ) (marks : List CallMark) (used : Bool) (id : ℕ) (First Second : (p q : ℕ) → Type 0) (first second : Gives ℕ) (deep high : ℕ) → Gives_at b base marks deep First first → Gives_at b base marks high Second second →
       (p q : ℕ) → standing.PasmAt t used First Second p q → (xs : List ℕ) → Stands b base marks xs → length xs + (1 + max deep (1 + high)) ≤ room → (k : ℕ → Rest) → ((value : ℕ) → Then b (at c q base marks (left_on used xs value)) (k value)) → Then b (at c p base marks (xs ++ id ∷ [])) (expressions.begins_pasm callee s abort id first second k)
   begun_pasm-meets b base marks used id First Second first second deep high m n p q h xs here fits k goes =
       m p h.0 h.2 (xs ++ id ∷ []) (up here id) (omega (arith, fits, length-append xs (id ∷ []))) (λ code. second (λ par. builtins.starts_pasm id code par k))
       (λ code. n h.0 h.1 h.3 ((xs ++ id ∷ []) ++ code ∷ []) (up (up here id) code) (omega (arith, fits, length-append xs (id ∷ []), length-append (xs ++ id ∷ []) (code ∷ []))) (λ par. builtins.starts_pasm id code par k)
       (λ par. pasm-meets q base marks xs here.low.low (omega (arith, fits, fits_stack)) b used h.1 id code par h.4 k goes))
 
-  pub begun_name-meets : (b base : ℕ) (marks : List Mark) (used : Bool) (id : ℕ) (name : List ℕ) (kind : Option NameKind) → kind_of s name ≡ kind → (First Second : (p q : ℕ) → Type 0) (first second : Gives ℕ) (deep high : ℕ) → Gives_at b base marks deep First first → Gives_at b base marks high Second second →
+  pub begun_name-meets : (b base : ℕ) (marks : List CallMark) (used : Bool) (id : ℕ) (name : List ℕ) (kind : Option NameKind) → kind_of s name ≡ kind → (First Second : (p q : ℕ) → Type 0) (first second : Gives ℕ) (deep high : ℕ) → Gives_at b base marks deep First first → Gives_at b base marks high Second second →
       (p q : ℕ) → standing.BeginsNameAt t used kind First Second p q → (xs : List ℕ) → Stands b base marks xs → length xs + (1 + (if standing.is_method_kind kind then high else max deep (1 + high))) ≤ room → (k : ℕ → Rest) → ((value : ℕ) → Then b (at c q base marks (left_on used xs value)) (k value)) → Then b (at c p base marks (xs ++ id ∷ [])) (expressions.begins_name callee s abort id name kind first second k)
   begun_name-meets b base marks used id name (Some (kind_case.Method i params)) is First Second first second deep high m n p q h xs here fits k goes =
       n p h.0 h.1 (xs ++ id ∷ []) (up here id) (omega (arith, fits, length-append xs (id ∷ []))) (λ stack. starts_method s id (own_target s (kind_of s name)) [] stack k)
@@ -605,18 +605,18 @@ module _ (w : Working) where
   begun_name-meets b base marks used id name None is First Second first second deep high m n p q h xs here fits k goes = begun_pasm-meets b base marks used id First Second first second deep high m n p q h xs here fits k goes
 
   -- an item that is tried
-  tried : (so : Bool) (found_value count wanted target q base : ℕ) (marks : List Mark) (xs : List ℕ) (f : ℕ) (own : Registers) (r u : Rest) → K f own (Finish (at c target base marks (xs ++ found_value ∷ []) own)) r → K f own (Finish (at c q base marks ((xs ++ wanted ∷ []) ++ count ∷ []) own)) u →
+  tried : (so : Bool) (found_value count wanted target q base : ℕ) (marks : List CallMark) (xs : List ℕ) (f : ℕ) (own : Registers) (r u : Rest) → K f own (Finish (at c target base marks (xs ++ found_value ∷ []) own)) r → K f own (Finish (at c q base marks ((xs ++ wanted ∷ []) ++ count ∷ []) own)) u →
       K f own (Finish (if so then at c target base marks (xs ++ found_value ∷ []) own else at c q base marks ((xs ++ wanted ∷ []) ++ count ∷ []) own)) (if so then r else u)
   tried true found_value count wanted target q base marks xs f own r u m n = m
   tried false found_value count wanted target q base marks xs f own r u m n = n
 
   module _ (wanted count : ℕ) where
-    pub item-tried : (goes : Bool) (value target q base : ℕ) (marks : List Mark) (xs : List ℕ) (f : ℕ) (own : Registers) (found none : ℕ → Rest) → ((x : ℕ) → K f own (Finish (at c target base marks (xs ++ x ∷ []) own)) (found x)) → ((x : ℕ) → K f own (Finish (at c q base marks ((xs ++ wanted ∷ []) ++ x ∷ []) own)) (none x)) →
+    pub item-tried : (goes : Bool) (value target q base : ℕ) (marks : List CallMark) (xs : List ℕ) (f : ℕ) (own : Registers) (found none : ℕ → Rest) → ((x : ℕ) → K f own (Finish (at c target base marks (xs ++ x ∷ []) own)) (found x)) → ((x : ℕ) → K f own (Finish (at c q base marks ((xs ++ wanted ∷ []) ++ x ∷ []) own)) (none x)) →
         K f own (standing.tries_item goes target wanted count value (at c q base marks xs own)) (expressions.tries goes wanted count value found none)
     item-tried true value target q base marks xs f own found none m n = tried (wanted == count) value (sum_of count 1) wanted target q base marks xs f own (found value) (none (sum_of count 1)) (m value) (n (sum_of count 1))
     item-tried false value target q base marks xs f own found none m n = tried (wanted == value) count (sum_of count 1) wanted target q base marks xs f own (found count) (none (sum_of count 1)) (m count) (n (sum_of count 1))
 
-    pub both-tried : (goes : Bool) (low high target q base : ℕ) (marks : List Mark) (xs : List ℕ) (f : ℕ) (own : Registers) (found none : ℕ → Rest) → ((x : ℕ) → K f own (Finish (at c target base marks (xs ++ x ∷ []) own)) (found x)) → ((x : ℕ) → K f own (Finish (at c q base marks ((xs ++ wanted ∷ []) ++ x ∷ []) own)) (none x)) →
+    pub both-tried : (goes : Bool) (low high target q base : ℕ) (marks : List CallMark) (xs : List ℕ) (f : ℕ) (own : Registers) (found none : ℕ → Rest) → ((x : ℕ) → K f own (Finish (at c target base marks (xs ++ x ∷ []) own)) (found x)) → ((x : ℕ) → K f own (Finish (at c q base marks ((xs ++ wanted ∷ []) ++ x ∷ []) own)) (none x)) →
         K f own (standing.tries_both goes target wanted count low high (at c q base marks xs own)) (expressions.tries_range goes wanted count low high found none)
     both-tried true low high target q base marks xs f own found none m n =
         let x : ℕ = toward low high (difference wanted count) in

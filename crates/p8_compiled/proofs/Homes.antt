@@ -15,9 +15,9 @@ use Rattle.p8_bytecode.specs.Reading.{bare}
 use Rattle.p8_bytecode.specs.Table.{rows}
 use Rattle.p8_bcog.specs.Variables.{one_pin, some_pins, whole_register, all_pins, acts_on_pins}
 use Rattle.p8_bcog.specs.Bytecodes.{row, return_row}
-use Rattle.p8_bcog.specs.declared.state.State.{State}
-use Rattle.p8_bcog.specs.declared.place.Place as place
-use Rattle.p8_bcog.specs.declared.place.Place.TheVariants as place_case
+use Rattle.p8_bcog.specs.declared.state.SpinState.{SpinState}
+use Rattle.p8_bcog.specs.declared.variable_place.VariablePlace as place
+use Rattle.p8_bcog.specs.declared.variable_place.VariablePlace.TheVariants as place_case
 use Rattle.p8_bcog.specs.Changes.{pushes}
 use Rattle.p8_bcog.specs.Operands.{operand}
 use Rattle.p8_meaning.specs.Variables.{width_of, size_of, size_of_kind, address_of, address_of_kind}
@@ -51,11 +51,11 @@ not-wrong (Some (Method number params)) is = absurd (cc)
 not-wrong (Some (Object item position count)) is = absurd (cc)
 
 -- a home that stands for a variable of this size at this address
-pub record IsHomeOf (home : Home) (size : State → ℕ) (address : State → ℕ) : Type 0 where
+pub record IsHomeOf (home : Home) (size : SpinState → ℕ) (address : SpinState → ℕ) : Type 0 where
   pub is_home : IsHome home
   pub based : is_based home.base ≡ true
-  pub same_size : (s : State) → home.size ≡ size s
-  pub same_address : (indexed : Bool) (s : State) → start_of indexed home.base s + home.offset ≡ address s
+  pub same_size : (s : SpinState) → home.size ≡ size s
+  pub same_address : (indexed : Bool) (s : SpinState) → start_of indexed home.base s + home.offset ≡ address s
 
 nothing-more : (n : ℕ) → n + 0 ≡ n
 nothing-more n = omega arith
@@ -118,20 +118,20 @@ op_for n (Register address x q) o = op_for_register x address o
 
 -- the bytecode acts where the source says that the variable is
 pub record IsFound (n : Names) (t : Compiled) (v : Variable) : Type 0 where
-  pub at : State → place.Place
+  pub at : SpinState → place.VariablePlace
   pub acts : (o : Operation) → Acts t.memory t.cog (op_for n v o) o (names_count v) at
-  pub site : (s : State) → names_count v ≤ length s.stack → at s ≡ site_of t v (tops (names_count v) s) s
+  pub site : (s : SpinState) → names_count v ≤ length s.stack → at s ≡ site_of t v (tops (names_count v) s) s
 
 based-count : (indexed : Bool) (base : Base) → is_based base ≡ true → named_by indexed base ≡ index_count indexed
 based-count indexed Pushed is = absurd (cc)
 based-count indexed _ is = refl
 
-with-count : {memory : List ℕ} {cog : ℕ} {op : Op} {o : Operation} {m k : ℕ} {at : State → place.Place} → m ≡ k → Acts memory cog op o m at → Acts memory cog op o k at
+with-count : {memory : List ℕ} {cog : ℕ} {op : Op} {o : Operation} {m k : ℕ} {at : SpinState → place.VariablePlace} → m ≡ k → Acts memory cog op o m at → Acts memory cog op o k at
 with-count {memory} {cog} {op} {o} {at = at} same a = subst (λ (c : ℕ). Acts memory cog op o c at) same a
 
 -- the element of a row that begins at an address
 same-element : (home : Home) (width address start shift number : ℕ) → home.size ≡ width → start + home.offset ≡ address → shift ≡ number →
-    ◌≡◌ {A = place.Place} (place_case.Memory (width_of home.size) ((start + home.offset + shift * bytes_in (width_of home.size)) % 2 ^ 16)) (place_case.Memory (width_of width) ((address + number * bytes_in (width_of width)) % 2 ^ 16))
+    ◌≡◌ {A = place.VariablePlace} (place_case.Memory (width_of home.size) ((start + home.offset + shift * bytes_in (width_of home.size)) % 2 ^ 16)) (place_case.Memory (width_of width) ((address + number * bytes_in (width_of width)) % 2 ^ 16))
 same-element home width address start shift number is there here =
     ap₂ (λ a b. place_case.Memory (width_of home.size) ((a + b * bytes_in (width_of home.size)) % 2 ^ 16)) there here
     ∙ ap (λ z. place_case.Memory (width_of z) ((address + number * bytes_in (width_of z)) % 2 ^ 16)) is
@@ -194,7 +194,7 @@ named_registers = 0x1F0 ∷ 0x1F1 ∷ 0x1F2 ∷ 0x1F4 ∷ 0x1F6 ∷ []
 pub is-named : (address : ℕ) → IsTrue (proper.is_register false address) → proper.is_one_of named_registers address ≡ true
 is-named address is = second-true (nat_le address 0x1FF) _ (second-true (nat_le 0x1F0 address) _ is)
 
-abbrev pins_at : Bits → (address : ℕ) → State → place.Place
+abbrev pins_at : Bits → (address : ℕ) → SpinState → place.VariablePlace
 pins_at whole address s = place_case.Pins address 31 0
 pins_at (bits (single e)) address s = place_case.Pins address (operand s 0 % 32) (operand s 0 % 32)
 pins_at (bits (range e f)) address s = place_case.Pins address (operand s 1 % 32) (operand s 0 % 32)
@@ -254,7 +254,7 @@ register-acts-1f6 memory cog (bits (range e f)) Push = record { plain = refl; ef
 register-acts-1f6 memory cog (bits (range e f)) Pop = record { plain = refl; effect = refl; is_op = λ off long_form fits. record { operands = (refl, refl, fits) }; does = λ off long_form s. refl }
 register-acts-1f6 memory cog _ _ = record { plain = refl; effect = refl; is_op = λ off long_form fits. record { operands = (refl, refl, fits) }; does = λ off long_form s. refl }
 
-pins-site : (t : Compiled) (address : ℕ) (x : Bits) (q : Place) (s : State) → bits_count x ≤ length s.stack → pins_at x address s ≡ site_of t (Register address x q) (tops (bits_count x) s) s
+pins-site : (t : Compiled) (address : ℕ) (x : Bits) (q : Place) (s : SpinState) → bits_count x ≤ length s.stack → pins_at x address s ≡ site_of t (Register address x q) (tops (bits_count x) s) s
 pins-site t address whole q s le = refl
 pins-site t address (bits (single e)) q s le = ap (λ pin. place_case.Pins address (pin % 32) (pin % 32)) (sym (top-0 s 1 0 refl le))
 pins-site t address (bits (range e f)) q s le = ap₂ (λ high low. place_case.Pins address (high % 32) (low % 32)) (sym (top-0 s 2 1 refl le)) (sym (top-1 s 2 0 refl le))

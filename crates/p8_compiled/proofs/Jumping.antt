@@ -10,8 +10,8 @@ use Rattle.p8_bytecode.specs.declared.operands.Operands.TheVariants.{Register, S
 use Rattle.p8_bytecode.specs.Table.{operands_of, is_effect, is_step}
 use Rattle.p8_bytecode.specs.Reading.{changes_register, changes_variable, has_base}
 use Rattle.p8_bytecode.specs.Spelling.{spelled, offset_bytes, effect_bytes, operand_bytes, place_bytes, has_long_place, IsStep, IsOp, IsOffset}
-use Rattle.p8_bcog.specs.declared.state.State.{State}
-use Rattle.p8_bcog.specs.declared.place.Place as place
+use Rattle.p8_bcog.specs.declared.state.SpinState.{SpinState}
+use Rattle.p8_bcog.specs.declared.variable_place.VariablePlace as place
 use Rattle.p8_bcog.specs.declared.step.Wanted.TheVariants as wanted_case
 use Rattle.p8_bcog.specs.Operands.{operand, taken, tested}
 use Rattle.p8_bcog.specs.Places as places
@@ -54,8 +54,8 @@ pub same-length : (op : Op) (form : Bool) (off : ℕ) → length (spelled (recor
 same-length op form off = ap suc (operands-length (operands_of op.code) (has_long_place op) form op off)
 
 module _ (memory : List ℕ) (cog base : ℕ) (table : List (ℕ × Place)) (hand : Place) where
-  pub jumping-stand : (wide : ℕ → Bool) (statement : Place) (to : ℕ) (op : Op) (course : (target : ℕ) → State → Course State) → ((form : Bool) (off : ℕ) → IsOffset form off → IsOp (with_jump op off form))
-      → ((form : Bool) (off : ℕ) (s : State) → row memory cog (with_jump op off form) s ≡ course ((s.at + off) % 2 ^ 16) s) → Stand memory base table hand (jumping wide statement to op) (λ p q. Does memory cog table hand p (course (base + to)) q)
+  pub jumping-stand : (wide : ℕ → Bool) (statement : Place) (to : ℕ) (op : Op) (course : (target : ℕ) → SpinState → Course SpinState) → ((form : Bool) (off : ℕ) → IsOffset form off → IsOp (with_jump op off form))
+      → ((form : Bool) (off : ℕ) (s : SpinState) → row memory cog (with_jump op off form) s ≡ course ((s.at + off) % 2 ^ 16) s) → Stand memory base table hand (jumping wide statement to op) (λ p q. Does memory cog table hand p (course (base + to)) q)
   jumping-stand wide statement to op course is does = record {
     by = λ w at h.
         let l = lines-split table base w.lines (w.end, w.statement) h.lines in
@@ -91,8 +91,8 @@ module _ (n : Names) (t : Compiled) (base : ℕ) (name : List ℕ) (q : Place) (
       let same : op.effect ≡ effect = (f.acts (Using effect)).effect in
       (subst (λ e. IsTrue (is_effect e)) (sym same) known, subst (λ b. IsStep b op) (sym (ap is_step same ∙ step)) is)
 
-  does-as : (effect : ℕ) (course : (target : ℕ) → State → Course State) → ((op : Op) (at : place.Place) (s : State) → at ≡ site_of t counter [] s → changes 0 (record op { effect = effect }) at s ≡ course ((s.at + op.second) % 2 ^ 16) s) →
-      (form : Bool) (off : ℕ) (s : State) → row t.memory t.cog (with_jump (op_for n counter (Using effect)) off form) s ≡ course ((s.at + off) % 2 ^ 16) s
+  does-as : (effect : ℕ) (course : (target : ℕ) → SpinState → Course SpinState) → ((op : Op) (at : place.VariablePlace) (s : SpinState) → at ≡ site_of t counter [] s → changes 0 (record op { effect = effect }) at s ≡ course ((s.at + op.second) % 2 ^ 16) s) →
+      (form : Bool) (off : ℕ) (s : SpinState) → row t.memory t.cog (with_jump (op_for n counter (Using effect)) off form) s ≡ course ((s.at + off) % 2 ^ 16) s
   does-as effect course same form off s =
       let op : Op = with_jump (op_for n counter (Using effect)) off form in
       (f.acts (Using effect)).does off form s

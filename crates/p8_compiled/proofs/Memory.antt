@@ -10,9 +10,9 @@ use Rattle.p8_bytecode.specs.declared.operands.Operands.TheVariants.{ShortVariab
 use Rattle.p8_bytecode.specs.Table.{rows, operands_of}
 use Rattle.p8_bytecode.specs.Reading.{bare, changes_variable, has_base}
 use Rattle.p8_bytecode.specs.Spelling.{FitsOperands, IsChange, IsPlace, IsOp}
-use Rattle.p8_bcog.specs.declared.state.State.{State}
-use Rattle.p8_bcog.specs.declared.place.Place as place
-use Rattle.p8_bcog.specs.declared.place.Place.TheVariants.{Memory, Pins}
+use Rattle.p8_bcog.specs.declared.state.SpinState.{SpinState}
+use Rattle.p8_bcog.specs.declared.variable_place.VariablePlace as place
+use Rattle.p8_bcog.specs.declared.variable_place.VariablePlace.TheVariants.{Memory, Pins}
 use Rattle.p8_bcog.specs.declared.step.Wanted.TheVariants as wanted_case
 use Rattle.p8_bcog.specs.Places.{reads_place}
 use Rattle.p8_bcog.specs.Operands.{operand, taken, replaced, tested}
@@ -27,11 +27,11 @@ use Rattle.p8_compiled.proofs.Truths.{below, both-true, equal, if-no, if-yes, le
 -- ---- what a bytecode does with its variable
 
 -- an address is that of memory alone
-abbrev pub referenced : (named : ℕ) → place.Place → State → Course State
+abbrev pub referenced : (named : ℕ) → place.VariablePlace → SpinState → Course SpinState
 referenced named (Memory width address) s = Finish (replaced named address s)
 referenced named (Pins register high low) s = reads_place wanted_case.Pushed (Pins register high low) (taken named s)
 
-abbrev pub done : Operation → (named : ℕ) → Op → place.Place → State → Course State
+abbrev pub done : Operation → (named : ℕ) → Op → place.VariablePlace → SpinState → Course SpinState
 done Push named op at s = pushes named at s
 done Pop named op at s = pops named at s
 done (Using effect) named op at s = changes named op at s
@@ -62,17 +62,17 @@ abbrev pub named_by : (indexed : Bool) → Base → ℕ
 named_by indexed Pushed = index_count indexed + 1
 named_by indexed _ = index_count indexed
 
-abbrev pub start_of : (indexed : Bool) → Base → State → ℕ
+abbrev pub start_of : (indexed : Bool) → Base → SpinState → ℕ
 start_of indexed Pushed s = operand s (index_count indexed)
 start_of indexed OfObject s = s.pbase
 start_of indexed OfVariables s = s.vbase
 start_of indexed OfFrame s = s.frame
 
-abbrev pub index_of : (indexed : Bool) → State → ℕ
+abbrev pub index_of : (indexed : Bool) → SpinState → ℕ
 index_of true s = operand s 0
 index_of false s = 0
 
-abbrev pub memory_at : (indexed : Bool) → Home → State → place.Place
+abbrev pub memory_at : (indexed : Bool) → Home → SpinState → place.VariablePlace
 memory_at indexed home s = Memory (width_of home.size) ((start_of indexed home.base s + home.offset + index_of indexed s * bytes_in (width_of home.size)) % 2 ^ 16)
 
 -- ---- the bytecodes with a base and a size
@@ -92,7 +92,7 @@ pub record IsMemory (memory : List ℕ) (cog : ℕ) (size : ℕ) (indexed : Bool
   pub operands : operands_of (code_of indexed size base o) ≡ Some Variable
   pub based : has_base (code_of indexed size base o) ≡ is_based base
   pub changes : changes_variable (code_of indexed size base o) ≡ is_using o
-  pub does : (first effect second : ℕ) (long_form : Bool) (s : State) →
+  pub does : (first effect second : ℕ) (long_form : Bool) (s : SpinState) →
       row memory cog (op_with (code_of indexed size base o) first effect second long_form) s
       ≡ done o (named_by indexed base) (op_with (code_of indexed size base o) first effect second long_form) (Memory (width_of size) ((start_of indexed base s + first + index_of indexed s * bytes_in (width_of size)) % 2 ^ 16)) s
 
@@ -141,11 +141,11 @@ is-memory memory cog size indexed base o is =
 abbrev pub with_jump : Op → (off : ℕ) → (long_form : Bool) → Op
 with_jump op off long_form = record op { second = off; long_form = long_form }
 
-pub record Acts (memory : List ℕ) (cog : ℕ) (op : Op) (o : Operation) (named : ℕ) (at : State → place.Place) : Type 0 where
+pub record Acts (memory : List ℕ) (cog : ℕ) (op : Op) (o : Operation) (named : ℕ) (at : SpinState → place.VariablePlace) : Type 0 where
   pub plain : with_jump op 0 false ≡ op
   pub effect : op.effect ≡ effect_of o
   pub is_op : (off : ℕ) (long_form : Bool) → FitsEffect o (with_jump op off long_form) → IsOp (with_jump op off long_form)
-  pub does : (off : ℕ) (long_form : Bool) (s : State) → row memory cog (with_jump op off long_form) s ≡ done o named (with_jump op off long_form) (at s) s
+  pub does : (off : ℕ) (long_form : Bool) (s : SpinState) → row memory cog (with_jump op off long_form) s ≡ done o named (with_jump op off long_form) (at s) s
 
 -- a home within reach of a bytecode
 pub record IsHome (home : Home) : Type 0 where
@@ -182,7 +182,7 @@ memory-acts memory cog indexed home o is =
 none-more : (a b : ℕ) → a ≡ a + 0 * b
 none-more a b = omega arith
 
-short-row : (memory : List ℕ) (cog : ℕ) (op : Op) (s : State) → 0x40 ≤ op.code → op.code < 0x80 → row memory cog op s ≡ short_variable op s
+short-row : (memory : List ℕ) (cog : ℕ) (op : Op) (s : SpinState) → 0x40 ≤ op.code → op.code < 0x80 → row memory cog op s ≡ short_variable op s
 unfolding row
 short-row memory cog op s least most =
     if-no (nat_lt op.code 0x08) _ _ (not-less op.code 0x08 (omega (arith, least)))
@@ -193,7 +193,7 @@ short-row memory cog op s least most =
     ∙ if-no (nat_lt op.code 0x40) _ _ (not-less op.code 0x40 least)
     ∙ if-yes (nat_lt op.code 0x80) _ _ (less op.code 0x80 most)
 
-short-acts-as : (o : Operation) (op : Op) (address : ℕ) (s : State) → acts (action_of o) 0 op Long address s ≡ done o 0 op (Memory Long address) s
+short-acts-as : (o : Operation) (op : Op) (address : ℕ) (s : SpinState) → acts (action_of o) 0 op Long address s ≡ done o 0 op (Memory Long address) s
 unfolding acts
 short-acts-as Push op address s = refl
 short-acts-as _ op address s = refl
@@ -240,7 +240,7 @@ short-code bits offset o b lt fours =
     }
 
 short-acts : (memory : List ℕ) (cog : ℕ) (code bits : ℕ) (base : Base) (offset size : ℕ) (o : Operation) → IsShort code bits offset o → size ≡ 4 → named_by false base ≡ 0 →
-    ((s : State) → (if bits == 0 then s.vbase else s.frame) ≡ start_of false base s) → Acts memory cog (record (bare code) { effect = effect_of o }) o (named_by false base) (memory_at false (home_at base offset size))
+    ((s : SpinState) → (if bits == 0 then s.vbase else s.frame) ≡ start_of false base s) → Acts memory cog (record (bare code) { effect = effect_of o }) o (named_by false base) (memory_at false (home_at base offset size))
 unfolding short_variable
 short-acts memory cog code bits base offset size o c long none starts =
     record {
@@ -269,7 +269,7 @@ short-acts memory cog code bits base offset size o c long none starts =
     }
 
 short-or-long : (memory : List ℕ) (cog : ℕ) (bits : ℕ) (base : Base) (offset size : ℕ) (o : Operation) (short : Bool) → is_short (home_at base offset size) ≡ short → bits < 2 → named_by false base ≡ 0 →
-    ((s : State) → (if bits == 0 then s.vbase else s.frame) ≡ start_of false base s) → IsHome (home_at base offset size) →
+    ((s : SpinState) → (if bits == 0 then s.vbase else s.frame) ≡ start_of false base s) → IsHome (home_at base offset size) →
     Acts memory cog (if short then record (bare (0x40 + bits * 0x20 + offset + action_of o)) { effect = effect_of o } else memory_op false (home_at base offset size) o) o (named_by false base) (memory_at false (home_at base offset size))
 short-or-long memory cog bits base offset size o true short b none starts is =
     let one : ((size == 4 && nat_lt offset 32) ≡ true) × ((offset % 4 == 0) ≡ true) = both-true _ _ short in

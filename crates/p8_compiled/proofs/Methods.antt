@@ -9,8 +9,8 @@ use Rattle.p8_access.specs.declared.kinds.Answer.{Answer}
 use Rattle.p8_access.specs.Courses.{Course, Finish, Told, Wants, Leaves, Closes, told}
 use Rattle.p8_tree.specs.Sources.{MethodTree}
 use Rattle.p8_bcog.specs.declared.calls.Call.{Call}
-use Rattle.p8_bcog.specs.declared.marks.Mark.{Mark}
-use Rattle.p8_bcog.specs.declared.state.State.{State}
+use Rattle.p8_bcog.specs.declared.marks.CallMark.{CallMark}
+use Rattle.p8_bcog.specs.declared.state.SpinState.{SpinState}
 use Rattle.p8_bcog.specs.declared.step.Given.TheVariants.{Called}
 use Rattle.p8_bcog.specs.Accesses.{ends}
 use Rattle.p8_bcog.specs.Code.{method_at}
@@ -61,15 +61,15 @@ all-clean (Leaves made state left) u same begins h = first-clean made begins.0 (
 all-clean (Closes made) u same begins h = subst (λ (x : Told (Unit {0})). AreSourceAccesses x) (same tt) h
 
 module _ (memory : List ℕ) (cog : ℕ) (program : Program) (addresses : Addresses) (placed : Placed memory cog program addresses) where
-  lower_returns : {b d : ℕ} {calls : List Call} {par : ℕ} {stack : List ℕ} {marks : List Mark} {go : Returned → Rest} → d ≤ b → Returns memory cog placed.table b calls par stack marks go → Returns memory cog placed.table d calls par stack marks go
+  lower_returns : {b d : ℕ} {calls : List Call} {par : ℕ} {stack : List ℕ} {marks : List CallMark} {go : Returned → Rest} → d ≤ b → Returns memory cog placed.table b calls par stack marks go → Returns memory cog placed.table d calls par stack marks go
   lower_returns within r = record { by = λ hand f own le returned given s above is. r.by hand f own (omega (arith, le, within)) returned given s above is }
 
-  lower_aborts : {b d : ℕ} {calls : List Call} {par : ℕ} {stack : List ℕ} {marks : List Mark} {go : Returned → Rest} → d ≤ b → Aborts memory cog placed.table b calls par stack marks go → Aborts memory cog placed.table d calls par stack marks go
+  lower_aborts : {b d : ℕ} {calls : List Call} {par : ℕ} {stack : List ℕ} {marks : List CallMark} {go : Returned → Rest} → d ≤ b → Aborts memory cog placed.table b calls par stack marks go → Aborts memory cog placed.table d calls par stack marks go
   lower_aborts within r = record { by = λ hand f own le returned given s above is. r.by hand f own (omega (arith, le, within)) returned given s above is }
 
   module _ (d par : ℕ) (ok : CallsOk memory cog placed.table program addresses d par (meaning d program addresses par))
       (target : Target) (is_instance : IsInstance program addresses target.instance) (file : File) (is_file : slice_get program target.instance.file ≡ Some file) (tree : MethodTree) (is_tree : method_of file target.method ≡ Some tree)
-      (frame size : ℕ) (calls : List Call) (ends_at : (frame + 4 + size) % 2 ^ 16 ≡ (frame + 4 + frame_size file tree) % 2 ^ 16) (stack : List ℕ) (marks : List Mark) (room : Room calls stack marks)
+      (frame size : ℕ) (calls : List Call) (ends_at : (frame + 4 + size) % 2 ^ 16 ≡ (frame + 4 + frame_size file tree) % 2 ^ 16) (stack : List ℕ) (marks : List CallMark) (room : Room calls stack marks)
       (return abort : Returned → Rest) (f : ℕ) (within : f ≤ d) (returns : Returns memory cog placed.table f calls par stack marks return) (aborts : Aborts memory cog placed.table f calls par stack marks abort) where
     abbrev here : Frame
     here = frame_of target frame size calls par
@@ -138,7 +138,7 @@ module _ (memory : List ℕ) (cog : ℕ) (program : Program) (addresses : Addres
         subst (λ (o : Option File). F memory cog placed.table hand f own (calling.gives frame (0 ∷ arguments) (Called begun) s) (means o)) (sym is_file)
         (subst (λ (o : Option MethodTree). F memory cog placed.table hand f own (calling.gives frame (0 ∷ arguments) (Called begun) s) (means_tree o)) (sym is_tree)
         (follows-gives memory cog placed.table hand (0 ∷ arguments) frame (Called begun) s f own (body par d target file tree frame (length calls + 1) return abort)
-        (subst (λ (x : Course State). F memory cog placed.table hand f own x (body par d target file tree frame (length calls + 1) return abort)) (sym entered)
+        (subst (λ (x : Course SpinState). F memory cog placed.table hand f own x (body par d target file tree frame (length calls + 1) return abort)) (sym entered)
         (method-meets d par (calls-ok par d) target is_instance file is_file tree is_tree frame size calls
         (size-is frame size (length arguments) begun.locals (locals_size (setting_of file 0) tree.locals) is p.locals ∙ ap (λ n. (frame + 4 + (4 * n + locals_size (setting_of file 0) tree.locals)) % 2 ^ 16) arity)
         stack marks room return abort f (omega (arith, lt)) (lower_returns le returns) (lower_aborts le aborts) hand own))));
@@ -160,7 +160,7 @@ module _ (memory : List ℕ) (cog : ℕ) (program : Program) (addresses : Addres
   unfolding ends
   life-meets target is_instance file is_file tree is_tree frame f =
       let entry = (method_at memory target.instance.base target.instance.variables target.method).entry in
-      let begins_at : Course State = enters_at (first_with entry target.instance.base target.instance.variables frame (frame_size file tree)) in
+      let begins_at : Course SpinState = enters_at (first_with entry target.instance.base target.instance.variables frame (frame_size file tree)) in
       let means : Option File → Rest = λ o. given o (λ file. given (method_of file target.method) (λ m. begins (suc f) (meaning f program addresses frame) (scope_with program addresses frame target file m frame 1) m [] (stops cog) (stops cog))) in
       let means_tree : Option MethodTree → Rest = λ o. given o (λ m. begins (suc f) (meaning f program addresses frame) (scope_with program addresses frame target file m frame 1) m [] (stops cog) (stops cog)) in
       subst (λ (o : Option File). M memory cog placed.table no_statement f begins_at (means o f cleared)) (sym is_file)
@@ -181,7 +181,7 @@ module _ (memory : List ℕ) (cog : ℕ) (program : Program) (addresses : Addres
       (makes (engine_of memory cog) (λ s place. Contains placed.table (s.at, place)) (life-meets target o.is_instance o.file o.is_file o.tree o.is_method frame f) [] answers))
 
   -- The law of statements: an access that some bytecode asks is asked for the statement that the bytecode is made from.
-  pub statement-law : (begin : ℕ) (origin : Origin) (target : Target) (frame : ℕ) → IsMethodOrigin program addresses origin target frame → (turns : List Turn) (n : ℕ) (s : State) (clock : ℕ) (left : List Turn) (due : ℕ) (access : Access) (bound : ℕ) → n < bound →
+  pub statement-law : (begin : ℕ) (origin : Origin) (target : Target) (frame : ℕ) → IsMethodOrigin program addresses origin target frame → (turns : List Turn) (n : ℕ) (s : SpinState) (clock : ℕ) (left : List Turn) (due : ℕ) (access : Access) (bound : ℕ) → n < bound →
       lived n (record { memory = memory; origin = origin; cog = cog; begin = begin }) turns ≡ Goes s clock left → lived (suc n) (record { memory = memory; origin = origin; cog = cog; begin = begin }) turns ≡ Asks due access →
       (place : Place) × Contains placed.table (s.at, place) × (says_for program addresses target frame cog (map answer_of turns) bound ≡ Some place)
   unfolding says_for
@@ -194,7 +194,7 @@ module _ (memory : List ℕ) (cog : ℕ) (program : Program) (addresses : Addres
       (subst (λ (x : Origin). lived (suc n) (record { memory = memory; origin = x; cog = cog; begin = begin }) turns ≡ Asks due access) is there)
 
   -- what follows for each number of bytecodes
-  abbrev first_course : Origin → Course State
+  abbrev first_course : Origin → Course SpinState
   first_course origin = enters_at (first_of origin)
 
   pub settled-by : (origin : Origin) (target : Target) (frame : ℕ) → IsMethodOrigin program addresses origin target frame → (answers : List Answer) (g : ℕ) → IsSettled (bytes memory origin cog answers g) → says program addresses target frame cog answers g ≡ bytes memory origin cog answers g

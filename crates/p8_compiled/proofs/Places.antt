@@ -3,8 +3,8 @@ use Rattle.std.proofs.Common.{◌≡◌, refl, subst, ℕ, Bool, true, false, Li
 use Rattle.p8_access.specs.declared.kinds.Access.TheVariants as access_case
 use Rattle.p8_access.specs.Courses.{Finish}
 use Rattle.p8_bcog.specs.declared.calls.Call.{Call}
-use Rattle.p8_bcog.specs.declared.marks.Mark.{Mark}
-use Rattle.p8_bcog.specs.declared.state.State.{State}
+use Rattle.p8_bcog.specs.declared.marks.CallMark.{CallMark}
+use Rattle.p8_bcog.specs.declared.state.SpinState.{SpinState}
 use Rattle.p8_bcog.specs.declared.step.Wanted.{Wanted}
 use Rattle.p8_bcog.specs.Accesses.{ends, is_readable}
 use Rattle.p8_bcog.specs.Operands.{left_by}
@@ -27,7 +27,7 @@ pub record Frame : Type 0 where
   pub par : ℕ
 
 -- where such a cog stands
-abbrev pub at : Frame → (p base : ℕ) → List Mark → (stack : List ℕ) → Registers → State
+abbrev pub at : Frame → (p base : ℕ) → List CallMark → (stack : List ℕ) → Registers → SpinState
 at c p base marks stack own = record {
   at = p;
   pbase = c.pbase;
@@ -59,7 +59,7 @@ pub reduced-is : (where_is : Location) (value : ℕ) → places.reduced (place_o
 reduced-is (Hub width address) value = refl
 reduced-is (Pins register high low) value = refl
 
-module _ (e : Reading State) (c : Frame) (q base : ℕ) (marks : List Mark) (stack : List ℕ) where
+module _ (e : Reading SpinState) (c : Frame) (q base : ℕ) (marks : List CallMark) (stack : List ℕ) where
   -- a read
   pub follows-read : (s : Scope) → s.par ≡ c.par → (wanted : Wanted) (where_is : Location) → IsThere false where_is → (count f : ℕ) (own : Registers) (go : ℕ → Rest) →
       ((value : ℕ) → Follows e count f own (places.uses wanted (place_of where_is) value (at c q base marks stack own)) (go value)) →

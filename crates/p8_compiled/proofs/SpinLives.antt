@@ -11,7 +11,7 @@ use Rattle.p8_access.specs.Lives.{is_last}
 use Rattle.p8_access.specs.Courses.{Course, Finish, Stop, Ask, Told, Wants, Leaves, Closes, told}
 use Rattle.p8_access.specs.Replays.{answer_of, retold}
 use Rattle.p8_bytecode.specs.declared.op.Op.{Op}
-use Rattle.p8_bcog.specs.declared.state.State.{State}
+use Rattle.p8_bcog.specs.declared.state.SpinState.{SpinState}
 use Rattle.p8_bcog.specs.Code.{fetched}
 use Rattle.p8_bcog.specs.Bytecodes.{clocks, clocks_of, is_slow}
 use Rattle.p8_bcog.specs.Replay.{engine_of, enters_at, first_of}
@@ -33,7 +33,7 @@ clocks-least (Some found) = by (is_slow found.0)
     by true = omega arith
     by false = omega arith
 
-pub bytecodes-paced : (memory : List ℕ) (s : State) → 32 ≤ clocks memory s
+pub bytecodes-paced : (memory : List ℕ) (s : SpinState) → 32 ≤ clocks memory s
 bytecodes-paced memory s = clocks-least (fetched memory s.at)
 
 -- ---- no more accesses are made than there are answers

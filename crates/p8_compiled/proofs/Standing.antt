@@ -10,7 +10,7 @@ use Rattle.p8_bytecode.specs.declared.operands.Operands.TheVariants.{Offset}
 use Rattle.p8_bytecode.specs.Table.{operands_of}
 use Rattle.p8_bytecode.specs.Reading.{bare}
 use Rattle.p8_bytecode.specs.Spelling.{spelled, operand_bytes, has_long_place, FitsOperands, IsOp}
-use Rattle.p8_bcog.specs.declared.state.State.{State}
+use Rattle.p8_bcog.specs.declared.state.SpinState.{SpinState}
 use Rattle.p8_bcog.specs.Bytecodes.{row}
 use Rattle.p8_gen.specs.Pieces.{Written, Piece, nothing, one, ◌⨾◌, from_start, up_to_end, up_to_jumps, of_statement, text, offset, told, jump, jump_size, end_of_jump}
 use Rattle.p8_gen.proofs.Widths.{Alike}
@@ -178,7 +178,7 @@ lines-split table base (x ∷ xs) y h =
     (All-cons (IsLine table base) x xs (All-head (IsLine table base) x (xs ++ y ∷ []) h) r.0, r.1)
 
 module _ (memory : List ℕ) (cog base : ℕ) (table : List (ℕ × Place)) (hand : Place) where
-  pub one-stand : (op : Op) (course : State → Course State) → IsOp op → ((s : State) → row memory cog op s ≡ course s) → Stand memory base table hand (one op) (λ p q. Does memory cog table hand p course q)
+  pub one-stand : (op : Op) (course : SpinState → Course SpinState) → IsOp op → ((s : SpinState) → row memory cog op s ≡ course s) → Stand memory base table hand (one op) (λ p q. Does memory cog table hand p course q)
   one-stand op course is does = record {
     by = λ w at h.
         let l = lines-split table base w.lines (w.end, w.statement) h.lines in
@@ -188,7 +188,7 @@ module _ (memory : List ℕ) (cog base : ℕ) (table : List (ℕ × Place)) (han
     exist = λ w near. one-exists w (one op w) op [] _ refl refl (sym (append-nil w.too_far)) is near;
   }
 
-  pub text-stand : (place : Place) (number : ℕ) (course : State → Course State) → IsOp (record (bare 0x87) { first = number }) → ((s : State) → row memory cog (record (bare 0x87) { first = number }) s ≡ course s) → Stand memory base table hand (text place number) (λ p q. Does memory cog table hand p course q)
+  pub text-stand : (place : Place) (number : ℕ) (course : SpinState → Course SpinState) → IsOp (record (bare 0x87) { first = number }) → ((s : SpinState) → row memory cog (record (bare 0x87) { first = number }) s ≡ course s) → Stand memory base table hand (text place number) (λ p q. Does memory cog table hand p course q)
   text-stand place number course is does = record {
     by = λ w at h.
         let l = lines-split table base w.lines (w.end, w.statement) h.lines in
@@ -208,8 +208,8 @@ module _ (memory : List ℕ) (cog base : ℕ) (table : List (ℕ × Place)) (han
   jump-is code wide from to is r =
       record { operands = subst (λ (found : Option Operands). FitsOperands found (jump_op code wide (offset from to))) (sym is) (refl, r.is_offset) }
 
-  pub jump-stand : (wide : ℕ → Bool) (statement : Place) (code to : ℕ) (course : (target : ℕ) → State → Course State) → operands_of code ≡ Some Offset
-      → ((form : Bool) (off : ℕ) (s : State) → row memory cog (jump_op code form off) s ≡ course ((s.at + off) % 2 ^ 16) s) → Stand memory base table hand (jump wide statement code to) (λ p q. Does memory cog table hand p (course (base + to)) q)
+  pub jump-stand : (wide : ℕ → Bool) (statement : Place) (code to : ℕ) (course : (target : ℕ) → SpinState → Course SpinState) → operands_of code ≡ Some Offset
+      → ((form : Bool) (off : ℕ) (s : SpinState) → row memory cog (jump_op code form off) s ≡ course ((s.at + off) % 2 ^ 16) s) → Stand memory base table hand (jump wide statement code to) (λ p q. Does memory cog table hand p (course (base + to)) q)
   jump-stand wide statement code to course is does = record {
     by = λ w at h.
         let l = lines-split table base w.lines (w.end, w.statement) h.lines in

@@ -17,7 +17,7 @@ use Rattle.p8_gen.specs.Statements.{Loop, SameLoop, inside, goes_on, leaves, wit
 use Rattle.p8_gen.proofs.Widths as widths
 use Rattle.p8_gen.proofs.Widths.{Alike}
 use Rattle.p8_compiled.specs.Courses.{takes_one, takes_value, drops}
-use Rattle.p8_compiled.specs.Standing.{Compiled, on, At, ValueAt, writes}
+use Rattle.p8_compiled.specs.Standing.{Compiled, with_hand, At, ValueAt, writes}
 use Rattle.p8_compiled.specs.Bodies.{jumps, jumps_unless, jumps_where, begins_loop, ends_loop, Inner, outside, plain, with_count, NextAt, QuitAt, EndAt, ActAt, FitsAt, PassEndAt, StatementAt, BodyAt, OtherAt, ArmsAt, ChoicesAt}
 use Rattle.p8_compiled.specs.Agreeing.{Agrees, environment}
 use Rattle.p8_compiled.proofs.Standing.{Stand, Counted, nothings, both, three, four, so, up, up-jumps, meet, from, of}
@@ -46,7 +46,7 @@ in-statement n t s a = record {
 }
 
 -- also for the code of a statement
-pub on-statement : (n : Names) (t : Compiled) (hand : Place) → Agrees n t → Agrees n (on t hand)
+pub on-statement : (n : Names) (t : Compiled) (hand : Place) → Agrees n t → Agrees n (with_hand t hand)
 on-statement n t hand a = record {
   kinds = a.kinds;
   no_result = a.no_result;
@@ -229,7 +229,7 @@ module _ (t : Compiled) (base : ℕ) where
   abbrev Bodies : (p : Place) → Names → Option Loop → (end first before : ℕ) → Arms → Type 0
   Bodies p n l end first before no_arms = Unit {0}
   Bodies p n l end first before (arms ⊳ arm items negated ss) =
-      Bodies p n l end first before arms × ((a1 a2 q : ℕ) × At (on t p) (first + bodies_size t base n l before arms) (takes_one 0 drops) a1 × BodyAt t ss (inner_of t base l) a1 a2 × At (on t p) a2 (jumps end) q)
+      Bodies p n l end first before arms × ((a1 a2 q : ℕ) × At (with_hand t p) (first + bodies_size t base n l before arms) (takes_one 0 drops) a1 × BodyAt t ss (inner_of t base l) a1 a2 × At (with_hand t p) a2 (jumps end) q)
 
   all-tests-stand : (p : Place) (n : Names) → Agrees n t → (l : Option Loop) (end first before : ℕ) (arms : Arms) → AreProperChoices arms → CleanArms t base n arms →
       U p (all_tests n l first before arms) (λ x y. Bodies p n l end (base + first) before arms → ChoicesAt t p arms (inner_of t base l) end x y)
@@ -238,7 +238,7 @@ module _ (t : Compiled) (base : ℕ) where
       let to : ℕ = (case_bodies n l 0 arms (from_place first before)).end in
       let ends = bodies-end t base n l 0 arms (from_place first before) in
       let there : base + first + bodies_size t base n l before arms ≡ base + to = omega (arith, ends) in
-      so (both (all-tests-stand p n a l end first before arms is.0 (λ f b. clean f (inl b))) (tests-stand (on t p) base n (on-statement n t p a) to items is.1.2 (λ f b. clean f (inr (inl b)))))
+      so (both (all-tests-stand p n a l end first before arms is.0 (λ f b. clean f (inl b))) (tests-stand (with_hand t p) base n (on-statement n t p a) to items is.1.2 (λ f b. clean f (inr (inl b)))))
       (λ x y r bodies. (
         r.0,
         base + to,
@@ -246,14 +246,14 @@ module _ (t : Compiled) (base : ℕ) where
         bodies.1.1,
         r.1 bodies.0,
         r.2,
-        subst (λ (place : ℕ). At (on t p) place (takes_one 0 drops) bodies.1.0) there bodies.1.3,
+        subst (λ (place : ℕ). At (with_hand t p) place (takes_one 0 drops) bodies.1.0) there bodies.1.3,
         bodies.1.4,
         inr (bodies.1.2, bodies.1.5),
       ))
 
   -- one body more, whose place is where those before it end
   one-more : (p : Place) (n : Names) (l : Option Loop) (end : ℕ) (arms : Arms) (items : Items) (negated : Bool) (ss : Statements) → D p (case_bodies n l end arms) (λ i j x y. Bodies p n l (base + end) x i arms) →
-      U p (byte 0x0C ⨾ body n l ss ⨾ jump n.wide n.statement 0x04 end) (λ x y. (a1 a2 : ℕ) × At (on t p) x (takes_one 0 drops) a1 × BodyAt t ss (inner_of t base l) a1 a2 × At (on t p) a2 (jumps (base + end)) y) →
+      U p (byte 0x0C ⨾ body n l ss ⨾ jump n.wide n.statement 0x04 end) (λ x y. (a1 a2 : ℕ) × At (with_hand t p) x (takes_one 0 drops) a1 × BodyAt t ss (inner_of t base l) a1 a2 × At (with_hand t p) a2 (jumps (base + end)) y) →
       D p (case_bodies n l end (arms ⊳ arm items negated ss)) (λ i j x y. Bodies p n l (base + end) x i (arms ⊳ arm items negated ss))
   one-more p n l end arms items negated ss before last = record {
     by = λ w at h.
@@ -262,7 +262,7 @@ module _ (t : Compiled) (base : ℕ) where
         let x = before.by w at y.0 in
         let ends = bodies-end t base n l end arms w in
         let there : base + v.end ≡ base + w.end + bodies_size t base n l w.jumps arms = omega (arith, ends) in
-        (x.0, (x.1, (y.1.0, y.1.1, _, subst (λ (place : ℕ). At (on t p) place (takes_one 0 drops) y.1.0) there y.1.2, y.1.3, y.1.4)));
+        (x.0, (x.1, (y.1.0, y.1.1, _, subst (λ (place : ℕ). At (with_hand t p) place (takes_one 0 drops) y.1.0) there y.1.2, y.1.3, y.1.4)));
     keeps = λ w. last.keeps (case_bodies n l end arms w) ∙ before.keeps w;
     exist = λ w near.
         let v = last.exist (case_bodies n l end arms w) near in
@@ -274,11 +274,11 @@ module _ (t : Compiled) (base : ℕ) where
 
   returned-stand : (n : Names) (a : Agrees n t) (l : Option Loop) (p : Place) (e : Option Tree) → IfThere (IsProperExpression false) e → ((f : Fault) → MisuseInOption (environment n) e f → ⊥) → U p (with_value n e 0x32 0x33) (StatementAt t (statement p (Return e)) (inner_of t base l))
   returned-stand n a l p None is clean = return-result-stand t.memory t.cog base t.table p
-  returned-stand n a l p (Some e) is clean = both (value-stand n (on t p) base (on-statement n t p a) e is.0 clean) (return-value-stand t.memory t.cog base t.table p)
+  returned-stand n a l p (Some e) is clean = both (value-stand n (with_hand t p) base (on-statement n t p a) e is.0 clean) (return-value-stand t.memory t.cog base t.table p)
 
   aborted-stand : (n : Names) (a : Agrees n t) (l : Option Loop) (p : Place) (e : Option Tree) → IfThere (IsProperExpression false) e → ((f : Fault) → MisuseInOption (environment n) e f → ⊥) → U p (with_value n e 0x30 0x31) (StatementAt t (statement p (Abort e)) (inner_of t base l))
   aborted-stand n a l p None is clean = abort-result-stand t.memory t.cog base t.table p
-  aborted-stand n a l p (Some e) is clean = both (value-stand n (on t p) base (on-statement n t p a) e is.0 clean) (abort-value-stand t.memory t.cog base t.table p)
+  aborted-stand n a l p (Some e) is clean = both (value-stand n (with_hand t p) base (on-statement n t p a) e is.0 clean) (abort-value-stand t.memory t.cog base t.table p)
 
   -- ---- the induction
 
@@ -287,7 +287,7 @@ module _ (t : Compiled) (base : ℕ) where
     code-stand hand n a l (statement p action) is loops clean = of p (action-stand (record n { statement = p }) (in-statement n t p a) l p action is loops clean)
 
     action-stand : (n : Names) (a : Agrees n t) (l : Option Loop) (p : Place) (x : Action) → IsProperAction x → action_leaves (in_loop t base l) x ≡ true → ((f : Fault) → MisuseInAction (environment n) x f → ⊥) → U p (code_of n l x) (StatementAt t (statement p x) (inner_of t base l))
-    action-stand n a l p (Do e) is loops clean = alone-stand (on t p) base n (on-statement n t p a) e is clean
+    action-stand n a l p (Do e) is loops clean = alone-stand (with_hand t p) base n (on-statement n t p a) e is clean
     action-stand n a l p (If arms nothing_else) is loops clean =
         so (up (λ end x y. y ≡ end → ArmsAt t p arms (inner_of t base l) end x y)
         (λ x y. widths.chain-alike n n.text n.statement l l (same-loop t base l) _ _ _ _ (widths.jumps n.wide n.statement n.statement 0x04 x y) widths.nothings arms)
@@ -299,65 +299,65 @@ module _ (t : Compiled) (base : ℕ) where
         (λ end. both (so (chain-stand p n a l true end arms is.1 (both-true _ _ loops).0 (λ f b. clean f (inl b))) (λ x y r. r tt))
         (body-stand p n a l ss is.2 (both-true _ _ loops).1 (λ f b. clean f (inr b))))
     action-stand n a l p (Case e arms other) is loops clean =
-        let e_clean : Clean n (on t p) base (on-statement n t p a) e = λ f b. clean f (inl (inl b)) in
+        let e_clean : Clean n (with_hand t p) base (on-statement n t p a) e = λ f b. clean f (inl (inl b)) in
         let arms_clean : CleanArms t base n arms = λ f b. clean f (inl (inr b)) in
-        up (λ end x y. (p1 p2 p3 p4 : ℕ) × ValueAt (on t p) e x p1 × ChoicesAt t p arms (inner_of t base l) end p1 p2 × At (on t p) p2 (takes_one 0 drops) p3 × OtherAt t other (inner_of t base l) p3 p4 × EndAt (on t p) p4 end)
+        up (λ end x y. (p1 p2 p3 p4 : ℕ) × ValueAt (with_hand t p) e x p1 × ChoicesAt t p arms (inner_of t base l) end p1 p2 × At (with_hand t p) p2 (takes_one 0 drops) p3 × OtherAt t other (inner_of t base l) p3 p4 × EndAt (with_hand t p) p4 end)
         (λ x y. widths.both (widths.up-jumps (λ i j f g. case-alike t base n l e arms other i j f g x y)) (widths.bodies-alike n n.text n.statement l l (same-loop t base l) x y arms))
         (λ end. so (meet
-        (up-jumps (λ first before x y. (p1 p2 p3 p4 : ℕ) × ValueAt (on t p) e x p1 × (Bodies p n l (base + end) first before arms → ChoicesAt t p arms (inner_of t base l) (base + end) p1 p2) × At (on t p) p2 (takes_one 0 drops) p3 × OtherAt t other (inner_of t base l) p3 p4 × At (on t p) p4 (jumps (base + end)) y)
+        (up-jumps (λ first before x y. (p1 p2 p3 p4 : ℕ) × ValueAt (with_hand t p) e x p1 × (Bodies p n l (base + end) first before arms → ChoicesAt t p arms (inner_of t base l) (base + end) p1 p2) × At (with_hand t p) p2 (takes_one 0 drops) p3 × OtherAt t other (inner_of t base l) p3 p4 × At (with_hand t p) p4 (jumps (base + end)) y)
         (λ i j f g. case-alike t base n l e arms other i j f g end end)
-        (λ first before. five (on t p) base (value-stand n (on t p) base (on-statement n t p a) e is.0.0 e_clean) (all-tests-stand p n a l (base + end) first before arms is.1 arms_clean) (drop-case-stand t.memory t.cog base t.table p)
+        (λ first before. five (with_hand t p) base (value-stand n (with_hand t p) base (on-statement n t p a) e is.0.0 e_clean) (all-tests-stand p n a l (base + end) first before arms is.1 arms_clean) (drop-case-stand t.memory t.cog base t.table p)
         (other-stand p n a l other is.2 (both-true _ _ loops).1 (λ f b. clean f (inr b))) (goes-stand t.memory t.cog base t.table p n.wide n.statement end)))
         (bodies-stand p n a l end arms is.1 (both-true _ _ loops).0 arms_clean))
         (λ x y r. (r.2.0, r.2.1, r.2.2, r.2.3, r.2.4, r.2.5 r.3, r.2.6, r.2.7, inr (r.1, r.2.8))))
     action-stand n a l p (Repeat Forever ss) is loops clean =
-        up (λ end x y. (p1 : ℕ) × BodyAt t ss (plain x end) x p1 × At (on t p) p1 (jumps x) y)
+        up (λ end x y. (p1 : ℕ) × BodyAt t ss (plain x end) x p1 × At (with_hand t p) p1 (jumps x) y)
         (λ x y. widths.froms (λ i j. widths.both (widths.body-alike n n.text n.statement (inside i x false) (inside j y false) refl ss) (widths.jumps n.wide n.statement n.statement 0x04 i j)))
-        (λ end. from (λ start x y. (p1 : ℕ) × BodyAt t ss (plain start (base + end)) x p1 × At (on t p) p1 (jumps start) y)
+        (λ end. from (λ start x y. (p1 : ℕ) × BodyAt t ss (plain start (base + end)) x p1 × At (with_hand t p) p1 (jumps start) y)
         (λ start. both (body-stand p n a (inside start end false) ss is.1 loops (λ f b. clean f (inr b))) (goes-stand t.memory t.cog base t.table p n.wide n.statement start)))
     action-stand n a l p (Repeat (Count e) ss) is loops clean =
-        up (λ end x y. (p1 p2 p3 : ℕ) × ValueAt (on t p) e x p1 × At (on t p) p1 (begins_loop end) p2 × BodyAt t ss (with_count p3 end) p2 p3 × At (on t p) p3 (takes_one 1 (ends_loop p2)) y)
+        up (λ end x y. (p1 p2 p3 : ℕ) × ValueAt (with_hand t p) e x p1 × At (with_hand t p) p1 (begins_loop end) p2 × BodyAt t ss (with_count p3 end) p2 p3 × At (with_hand t p) p3 (takes_one 1 (ends_loop p2)) y)
         (λ x y. widths.both (widths.both (widths.value-alike n n.text n.statement e) (widths.jumps n.wide n.statement n.statement 0x08 x y))
         (widths.froms (λ i j. widths.both (widths.ups (λ v w. widths.body-alike n n.text n.statement (inside v x true) (inside w y true) refl ss)) (widths.jumps n.wide n.statement n.statement 0x09 i j))))
-        (λ end. so (three (value-stand n (on t p) base (on-statement n t p a) e is.0.0 (λ f b. clean f (inl b))) (loop-begins-stand t.memory t.cog base t.table p n.wide n.statement end)
-        (from (λ start x y. (p3 : ℕ) × BodyAt t ss (with_count p3 (base + end)) x p3 × At (on t p) p3 (takes_one 1 (ends_loop start)) y)
+        (λ end. so (three (value-stand n (with_hand t p) base (on-statement n t p a) e is.0.0 (λ f b. clean f (inl b))) (loop-begins-stand t.memory t.cog base t.table p n.wide n.statement end)
+        (from (λ start x y. (p3 : ℕ) × BodyAt t ss (with_count p3 (base + end)) x p3 × At (with_hand t p) p3 (takes_one 1 (ends_loop start)) y)
         (λ start. both
         (up (λ next x y. BodyAt t ss (with_count next (base + end)) x y) (λ v w. widths.body-alike n n.text n.statement (inside v end true) (inside w end true) refl ss)
         (λ next. body-stand p n a (inside next end true) ss is.1 loops (λ f b. clean f (inr b))))
         (loop-ends-stand t.memory t.cog base t.table p n.wide n.statement start))))
         (λ x y r. (r.0, r.1, r.4.0, r.2, r.3, r.4.1, r.4.2)))
     action-stand n a l p (Repeat (Before until e) ss) is loops clean =
-        up (λ end x y. (p1 p2 p3 : ℕ) × ValueAt (on t p) e x p1 × At (on t p) p1 (takes_one 0 (jumps_unless until end)) p2 × BodyAt t ss (plain x end) p2 p3 × At (on t p) p3 (jumps x) y)
+        up (λ end x y. (p1 p2 p3 : ℕ) × ValueAt (with_hand t p) e x p1 × At (with_hand t p) p1 (takes_one 0 (jumps_unless until end)) p2 × BodyAt t ss (plain x end) p2 p3 × At (with_hand t p) p3 (jumps x) y)
         (λ x y. widths.froms (λ i j. widths.both (widths.both (widths.both (widths.value-alike n n.text n.statement e) (widths.jumps n.wide n.statement n.statement (zero_jump until) x y))
         (widths.body-alike n n.text n.statement (inside i x false) (inside j y false) refl ss)) (widths.jumps n.wide n.statement n.statement 0x04 i j)))
-        (λ end. from (λ start x y. (p1 p2 p3 : ℕ) × ValueAt (on t p) e x p1 × At (on t p) p1 (takes_one 0 (jumps_unless until (base + end))) p2 × BodyAt t ss (plain start (base + end)) p2 p3 × At (on t p) p3 (jumps start) y)
-        (λ start. four (value-stand n (on t p) base (on-statement n t p a) e is.0.0 (λ f b. clean f (inl b))) (unless-stand t.memory t.cog base t.table p until n.wide n.statement end)
+        (λ end. from (λ start x y. (p1 p2 p3 : ℕ) × ValueAt (with_hand t p) e x p1 × At (with_hand t p) p1 (takes_one 0 (jumps_unless until (base + end))) p2 × BodyAt t ss (plain start (base + end)) p2 p3 × At (with_hand t p) p3 (jumps start) y)
+        (λ start. four (value-stand n (with_hand t p) base (on-statement n t p a) e is.0.0 (λ f b. clean f (inl b))) (unless-stand t.memory t.cog base t.table p until n.wide n.statement end)
         (body-stand p n a (inside start end false) ss is.1 loops (λ f b. clean f (inr b))) (goes-stand t.memory t.cog base t.table p n.wide n.statement start)))
     action-stand n a l p (Repeat (After until e) ss) is loops clean =
-        up (λ end x y. (p1 p2 : ℕ) × BodyAt t ss (plain p1 end) x p1 × ValueAt (on t p) e p1 p2 × At (on t p) p2 (takes_one 0 (jumps_where until x)) y)
+        up (λ end x y. (p1 p2 : ℕ) × BodyAt t ss (plain p1 end) x p1 × ValueAt (with_hand t p) e p1 p2 × At (with_hand t p) p2 (takes_one 0 (jumps_where until x)) y)
         (λ x y. widths.froms (λ i j. widths.both (widths.both (widths.ups (λ v w. widths.body-alike n n.text n.statement (inside v x false) (inside w y false) refl ss)) (widths.value-alike n n.text n.statement e))
         (widths.jumps n.wide n.statement n.statement (zero_jump (not until)) i j)))
-        (λ end. from (λ start x y. (p1 p2 : ℕ) × BodyAt t ss (plain p1 (base + end)) x p1 × ValueAt (on t p) e p1 p2 × At (on t p) p2 (takes_one 0 (jumps_where until start)) y)
+        (λ end. from (λ start x y. (p1 p2 : ℕ) × BodyAt t ss (plain p1 (base + end)) x p1 × ValueAt (with_hand t p) e p1 p2 × At (with_hand t p) p2 (takes_one 0 (jumps_where until start)) y)
         (λ start. three
         (up (λ next x y. BodyAt t ss (plain next (base + end)) x y) (λ v w. widths.body-alike n n.text n.statement (inside v end false) (inside w end false) refl ss)
         (λ next. body-stand p n a (inside next end false) ss is.1 loops (λ f b. clean f (inr b))))
-        (value-stand n (on t p) base (on-statement n t p a) e is.0.0 (λ f b. clean f (inl b))) (where-stand t.memory t.cog base t.table p until n.wide n.statement start)))
+        (value-stand n (with_hand t p) base (on-statement n t p a) e is.0.0 (λ f b. clean f (inl b))) (where-stand t.memory t.cog base t.table p until n.wide n.statement start)))
     action-stand n a l p (Repeat (From name x0 y0 step q) ss) is loops clean =
-        let f : IsFound n (on t p) (Named name no_index q) = found n (on t p) (on-statement n t p a) (Named name no_index q) (usable n (on t p) (on-statement n t p a) (Named name no_index q) (is.0.0, tt) (none-there _ (λ f b. clean f (inl (inl b))))) in
-        up (λ end x y. (p1 p2 p3 : ℕ) × ValueAt (on t p) x0 x p1 × At (on t p) p1 (takes_value 0 0 (writes (on t p) false (Named name no_index q))) p2 × BodyAt t ss (plain p3 end) p2 p3 × PassEndAt (on t p) (Named name no_index q) x0 y0 step p2 p3 y)
+        let f : IsFound n (with_hand t p) (Named name no_index q) = found n (with_hand t p) (on-statement n t p a) (Named name no_index q) (usable n (with_hand t p) (on-statement n t p a) (Named name no_index q) (is.0.0, tt) (none-there _ (λ f b. clean f (inl (inl b))))) in
+        up (λ end x y. (p1 p2 p3 : ℕ) × ValueAt (with_hand t p) x0 x p1 × At (with_hand t p) p1 (takes_value 0 0 (writes (with_hand t p) false (Named name no_index q))) p2 × BodyAt t ss (plain p3 end) p2 p3 × PassEndAt (with_hand t p) (Named name no_index q) x0 y0 step p2 p3 y)
         (λ x y. widths.both (widths.both (widths.value-alike n n.text n.statement x0) (widths.same-one _))
         (widths.froms (λ i j.
         widths.both (widths.both (widths.both (widths.both (widths.ups (λ v w. widths.body-alike n n.text n.statement (inside v x false) (inside w y false) refl ss)) (widths.step-alike n n.text n.statement step)) (widths.value-alike n n.text n.statement x0))
         (widths.value-alike n n.text n.statement y0)) (widths.steps n.wide n.statement n.statement i j (plain_name n name (step_effect step))))))
-        (λ end. so (three (value-stand n (on t p) base (on-statement n t p a) x0 is.0.1.0 (λ f b. clean f (inl (inr (inl (inl b)))))) (pop-stand n (on t p) base (Named name no_index q) f)
-        (from (λ start x y. (p3 : ℕ) × BodyAt t ss (plain p3 (base + end)) x p3 × PassEndAt (on t p) (Named name no_index q) x0 y0 step start p3 y)
+        (λ end. so (three (value-stand n (with_hand t p) base (on-statement n t p a) x0 is.0.1.0 (λ f b. clean f (inl (inr (inl (inl b)))))) (pop-stand n (with_hand t p) base (Named name no_index q) f)
+        (from (λ start x y. (p3 : ℕ) × BodyAt t ss (plain p3 (base + end)) x p3 × PassEndAt (with_hand t p) (Named name no_index q) x0 y0 step start p3 y)
         (λ start. both
         (up (λ next x y. BodyAt t ss (plain next (base + end)) x y) (λ v w. widths.body-alike n n.text n.statement (inside v end false) (inside w end false) refl ss)
         (λ next. body-stand p n a (inside next end false) ss is.1 loops (λ f b. clean f (inr b))))
-        (pass-stand (on t p) base n (on-statement n t p a) name q f x0 y0 step is.0.1.0 is.0.2.0 is.0.3 (λ f b. clean f (inl (inr (inl (inl b))))) (λ f b. clean f (inl (inr (inl (inr b))))) (λ f b. clean f (inl (inr (inr b)))) start))))
+        (pass-stand (with_hand t p) base n (on-statement n t p a) name q f x0 y0 step is.0.1.0 is.0.2.0 is.0.3 (λ f b. clean f (inl (inr (inl (inl b))))) (λ f b. clean f (inl (inr (inl (inr b))))) (λ f b. clean f (inl (inr (inr b)))) start))))
         (λ x y r. (r.0, r.1, r.4.0, r.2, r.3, r.4.1, r.4.2)))
-    action-stand n a l p Next is loops clean = next-stand (on t p) base n l loops
-    action-stand n a l p Quit is loops clean = quit-stand (on t p) base n l loops
+    action-stand n a l p Next is loops clean = next-stand (with_hand t p) base n l loops
+    action-stand n a l p Quit is loops clean = quit-stand (with_hand t p) base n l loops
     action-stand n a l p (Return e) is loops clean = returned-stand n a l p e is clean
     action-stand n a l p (Abort e) is loops clean = aborted-stand n a l p e is clean
 
@@ -375,11 +375,11 @@ module _ (t : Compiled) (base : ℕ) where
     chain-stand p n a l goes end no_arms is loops clean = so nothings (λ x y same there. same)
     chain-stand p n a l goes end (arms ⊳ arm (no_items ▸ single e) negated ss) is loops clean =
         so (both (chain-stand p n a l true end arms is.0 (both-true _ _ loops).0 (λ f b. clean f (inl b)))
-        (up (λ next x y. (p2 p3 p4 : ℕ) × ValueAt (on t p) e x p2 × At (on t p) p2 (takes_one 0 (jumps_unless negated next)) p3 × BodyAt t ss (inner_of t base l) p3 p4 × LastAt (on t p) base goes (base + end) p4 y)
+        (up (λ next x y. (p2 p3 p4 : ℕ) × ValueAt (with_hand t p) e x p2 × At (with_hand t p) p2 (takes_one 0 (jumps_unless negated next)) p3 × BodyAt t ss (inner_of t base l) p3 p4 × LastAt (with_hand t p) base goes (base + end) p4 y)
         (λ x y. widths.both (widths.both (widths.both (widths.value-alike n n.text n.statement e) (widths.jumps n.wide n.statement n.statement (zero_jump negated) x y)) (widths.body-alike n n.text n.statement l l (same-loop t base l) ss)) (last-alike t base n goes end))
-        (λ next. four (value-stand n (on t p) base (on-statement n t p a) e is.1.0.0 (λ f b. clean f (inr (inl (inr b))))) (unless-stand t.memory t.cog base t.table p negated n.wide n.statement next)
-        (body-stand p n a l ss is.1.1 (both-true _ _ loops).1 (λ f b. clean f (inr (inr b)))) (last-stand (on t p) base n goes end))))
-        (λ x y r there. (r.0, r.2.0, r.2.1, r.2.2, r.1 tt, r.2.3, r.2.4, r.2.5, leads-on (on t p) base goes (base + end) r.2.2 y r.2.6 there))
+        (λ next. four (value-stand n (with_hand t p) base (on-statement n t p a) e is.1.0.0 (λ f b. clean f (inr (inl (inr b))))) (unless-stand t.memory t.cog base t.table p negated n.wide n.statement next)
+        (body-stand p n a l ss is.1.1 (both-true _ _ loops).1 (λ f b. clean f (inr (inr b)))) (last-stand (with_hand t p) base n goes end))))
+        (λ x y r there. (r.0, r.2.0, r.2.1, r.2.2, r.1 tt, r.2.3, r.2.4, r.2.5, leads-on (with_hand t p) base goes (base + end) r.2.2 y r.2.6 there))
     chain-stand p n a l goes end (arms ⊳ arm _ negated ss) is loops clean = absurd is.1.0
 
     bodies-stand : (p : Place) (n : Names) (a : Agrees n t) (l : Option Loop) (end : ℕ) (arms : Arms) → AreProperChoices arms → arms_leave (in_loop t base l) arms ≡ true → CleanArms t base n arms →

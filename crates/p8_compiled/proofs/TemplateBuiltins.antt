@@ -12,9 +12,9 @@ use Rattle.p8_bytecode.specs.declared.op.Op.{Op}
 use Rattle.p8_bytecode.specs.Table.{rows}
 use Rattle.p8_bytecode.specs.Reading.{bare}
 use Rattle.p8_bytecode.specs.Spelling.{IsOp}
-use Rattle.p8_bcog.specs.declared.state.State.{State}
-use Rattle.p8_bcog.specs.declared.place.Place as place
-use Rattle.p8_bcog.specs.declared.place.Place.TheVariants as place_case
+use Rattle.p8_bcog.specs.declared.state.SpinState.{SpinState}
+use Rattle.p8_bcog.specs.declared.variable_place.VariablePlace as place
+use Rattle.p8_bcog.specs.declared.variable_place.VariablePlace.TheVariants as place_case
 use Rattle.p8_bcog.specs.declared.step.Wanted.TheVariants as wanted_case
 use Rattle.p8_bcog.specs.Accesses.{gets, ends}
 use Rattle.p8_bcog.specs.Operands.{operand, taken, pushed, tested}
@@ -37,13 +37,13 @@ use Rattle.p8_compiled.proofs.Memory.{Acts, done, with_jump, FitsEffect, memory-
 use Rattle.p8_compiled.proofs.Truths.{or-either}
 
 -- nothing is taken
-taken-none : (s : State) → taken 0 s ≡ s
+taken-none : (s : SpinState) → taken 0 s ≡ s
 taken-none s = ap (λ xs. record s { stack = xs }) (ap (λ k. take k s.stack) (none-less (length s.stack)) ∙ take-length s.stack)
   where
     none-less : (k : ℕ) → k - 0 ≡ k
     none-less k = omega arith
 
-whole-place : (width : Width) (a : ℕ) → ◌≡◌ {A = place.Place} (place_case.Memory width ((a + 0 + 0 * bytes_in width) % 2 ^ 16)) (place_case.Memory width (a % 2 ^ 16))
+whole-place : (width : Width) (a : ℕ) → ◌≡◌ {A = place.VariablePlace} (place_case.Memory width ((a + 0 + 0 * bytes_in width) % 2 ^ 16)) (place_case.Memory width (a % 2 ^ 16))
 whole-place width a = ap (λ x. place_case.Memory width (x % 2 ^ 16)) (nothing-more a (bytes_in width))
   where
     nothing-more : (a b : ℕ) → a + 0 + 0 * b ≡ a
@@ -60,7 +60,7 @@ module _ (t : Compiled) (base : ℕ) where
 
   -- ---- memory, without a name
 
-  acts-stand : (op : Op) (o : Operation) (course : State → Course State) {named : ℕ} {at : State → place.Place} → Acts t.memory t.cog op o named at → FitsEffect o (with_jump op 0 false) → ((s : State) → done o named op (at s) s ≡ course s) → S (one op) (λ p q. At t p course q)
+  acts-stand : (op : Op) (o : Operation) (course : SpinState → Course SpinState) {named : ℕ} {at : SpinState → place.VariablePlace} → Acts t.memory t.cog op o named at → FitsEffect o (with_jump op 0 false) → ((s : SpinState) → done o named op (at s) s ≡ course s) → S (one op) (λ p q. At t p course q)
   acts-stand op o course {named} {at} a fits same =
       one-stand t.memory t.cog base t.table t.hand op course (subst IsOp a.plain (a.is_op 0 false fits))
       (λ s. subst (λ (x : Op). row t.memory t.cog x s ≡ done o named x (at s) s) a.plain (a.does 0 false s) ∙ same s)

@@ -8,7 +8,7 @@ use Rattle.p8_bytecode.specs.declared.operands.Operands.TheVariants.{Nothing}
 use Rattle.p8_bytecode.specs.Table.{rows, operands_of}
 use Rattle.p8_bytecode.specs.Reading.{bare}
 use Rattle.p8_words.specs.Operators.{is_unary}
-use Rattle.p8_bcog.specs.declared.state.State.{State}
+use Rattle.p8_bcog.specs.declared.state.SpinState.{SpinState}
 use Rattle.p8_bcog.specs.Operands.{operand, pushed, replaced, jumped, is_between, sum_of, distance, difference}
 use Rattle.p8_bcog.specs.Control as control
 use Rattle.p8_bcog.specs.Bytecodes.{row, test_row, look_row, operator_row}
@@ -22,7 +22,7 @@ use Rattle.p8_compiled.proofs.Choices.{each, all_from, within-row}
 use Rattle.p8_compiled.proofs.Operands.{tested-same, pushed-taken, stays}
 use Rattle.p8_compiled.proofs.Truths.{at-most, both-true, if-no, implied, is-no, not-less}
 
-else-same : (b : Bool) (x y z : State) → y ≡ z → (if b then x else y) ≡ (if b then x else z)
+else-same : (b : Bool) (x y z : SpinState) → y ≡ z → (if b then x else y) ≡ (if b then x else z)
 else-same b x y z is = ap (λ st. if b then x else st) is
 
 -- ---- operators between their operands
@@ -128,7 +128,7 @@ module _ (memory : List ℕ) (cog base : ℕ) (table : List (ℕ × Place)) (han
         ),
       ) operator is plus
 
-  operator-row : (k : ℕ) (s : State) → 0xE0 ≤ k → row memory cog (bare k) s ≡ operator_row (bare k) s
+  operator-row : (k : ℕ) (s : SpinState) → 0xE0 ≤ k → row memory cog (bare k) s ≡ operator_row (bare k) s
   unfolding row
   operator-row k s le =
       if-no (nat_lt k 0x08) _ _ (not-less k 0x08 (omega (arith, le)))

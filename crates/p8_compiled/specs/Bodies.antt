@@ -6,47 +6,47 @@ use Rattle.p8_tree.specs.Lists.{count_of_trees}
 use Rattle.p8_tree.specs.Expressions.{Tree, node, Var, Call, Assign, Change, Built, Variable, Named, no_index, Item, single, range, Items, no_items, ◌▸◌}
 use Rattle.p8_tree.specs.Statements.{Course as Loop, Forever, Count, Before, After, From, Statement, statement, Do, If, Case, Repeat, Next, Quit}
 use Rattle.p8_tree.specs.Statements.{Return, Abort, arm, Otherwise, nothing_else, otherwise, Statements, no_statements, ◌▹◌, Arms, no_arms, ◌⊳◌}
-use Rattle.p8_bcog.specs.declared.state.State.{State}
+use Rattle.p8_bcog.specs.declared.state.SpinState.{SpinState}
 use Rattle.p8_bcog.specs.declared.step.Wanted.TheVariants as wanted_case
 use Rattle.p8_bcog.specs.Operands.{operand, taken, pushed, tested, is_between, difference}
 use Rattle.p8_bcog.specs.Places as places
 use Rattle.p8_bcog.specs.Calls as calling
 use Rattle.p8_meaning.specs.Values.{holds}
 use Rattle.p8_compiled.specs.Courses.{takes_one, takes_two, takes_three, takes_value, goes_to, goes_if, drops}
-use Rattle.p8_compiled.specs.Standing.{Compiled, on, At, site_of, writes, opens, OwnCallAt, ObjectCallAt, AssignAt, ChangeAt, HasRegister, ValueAt}
+use Rattle.p8_compiled.specs.Standing.{Compiled, with_hand, At, site_of, writes, opens, OwnCallAt, ObjectCallAt, AssignAt, ChangeAt, HasRegister, ValueAt}
 use Rattle.p8_compiled.specs.Standing.{NamesAt, IndexAt, ValuesAt, BuiltAt}
 
 -- ---- what the bytecodes of statements do
 
-abbrev pub jumps : (target : ℕ) → State → Course State
+abbrev pub jumps : (target : ℕ) → SpinState → Course SpinState
 jumps target st = Finish (goes_to target st)
 
 -- 0A and 0B, by the value on the stack
-abbrev pub jumps_where : (negated : Bool) → (target a : ℕ) → State → Course State
+abbrev pub jumps_where : (negated : Bool) → (target a : ℕ) → SpinState → Course SpinState
 jumps_where negated target a st = Finish (goes_if (holds negated a) target st)
 
-abbrev pub jumps_unless : (negated : Bool) → (target a : ℕ) → State → Course State
+abbrev pub jumps_unless : (negated : Bool) → (target a : ℕ) → SpinState → Course SpinState
 jumps_unless negated target a st = Finish (if holds negated a then st else goes_to target st)
 
 -- the count of a loop stays on the stack
-abbrev pub begins_loop : (target : ℕ) → State → Course State
+abbrev pub begins_loop : (target : ℕ) → SpinState → Course SpinState
 begins_loop target st = tested 1 1 st (Finish (if operand st 0 == 0 then goes_to target (taken 1 st) else st))
 
-abbrev pub ends_loop : (target : ℕ) → (a : ℕ) → State → Course State
+abbrev pub ends_loop : (target : ℕ) → (a : ℕ) → SpinState → Course SpinState
 ends_loop target a st = Finish (if difference a 1 == 0 then st else goes_to target (pushed (difference a 1) st))
 
 -- so does the value of a CASE below what it is compared with
-abbrev pub fits_value : (target a x : ℕ) → State → Course State
+abbrev pub fits_value : (target a x : ℕ) → SpinState → Course SpinState
 fits_value target a x st = Finish (pushed a (goes_if (a == x) target st))
 
-abbrev pub fits_range : (target a low high : ℕ) → State → Course State
+abbrev pub fits_range : (target a low high : ℕ) → SpinState → Course SpinState
 fits_range target a low high st = Finish (pushed a (goes_if (is_between a low high) target st))
 
 -- the end of a pass of REPEAT with FROM and TO
-abbrev pub steps_by_one : Compiled → Variable → (target from to : ℕ) → State → Course State
+abbrev pub steps_by_one : Compiled → Variable → (target from to : ℕ) → SpinState → Course SpinState
 steps_by_one t v target from to st = places.reads_place (wanted_case.Stepped 1 from to target) (site_of t v [] st) st
 
-abbrev pub steps_by : Compiled → Variable → (target by from to : ℕ) → State → Course State
+abbrev pub steps_by : Compiled → Variable → (target by from to : ℕ) → SpinState → Course SpinState
 steps_by t v target by from to st = places.reads_place (wanted_case.Stepped by from to target) (site_of t v [] st) st
 
 -- ---- statements
@@ -115,18 +115,20 @@ LoopAt t (From name from to step place) Body p q =
 
 abbrev mutual
   pub StatementAt : Compiled → Statement → Inner → (p q : ℕ) → Type 0
-  StatementAt t (statement place (Do e)) inner p q = ActAt (on t place) e p q
+  StatementAt t (statement place (Do e)) inner p q = ActAt (with_hand t place) e p q
   StatementAt t (statement place (If arms other)) inner p q = (p1 : ℕ) × ArmsAt t place arms inner q p p1 × OtherAt t other inner p1 q
   StatementAt t (statement place (Case e arms other)) inner p q =
-      (p1 p2 p3 p4 : ℕ) × ValueAt (on t place) e p p1 × ChoicesAt t place arms inner q p1 p2 × At (on t place) p2 (takes_one 0 drops) p3 ×
-      OtherAt t other inner p3 p4 × EndAt (on t place) p4 q
-  StatementAt t (statement place (Repeat course body)) inner p q = LoopAt (on t place) course (BodyAt t body) p q
-  StatementAt t (statement place Next) inner p q = NextAt (on t place) inner p q
-  StatementAt t (statement place Quit) inner p q = QuitAt (on t place) inner p q
-  StatementAt t (statement place (Return None)) inner p q = At (on t place) p (calling.return_result t.cog) q
-  StatementAt t (statement place (Return (Some e))) inner p q = (p1 : ℕ) × ValueAt (on t place) e p p1 × At (on t place) p1 (calling.return_value t.cog) q
-  StatementAt t (statement place (Abort None)) inner p q = At (on t place) p (calling.abort_result t.cog) q
-  StatementAt t (statement place (Abort (Some e))) inner p q = (p1 : ℕ) × ValueAt (on t place) e p p1 × At (on t place) p1 (calling.abort_value t.cog) q
+      (p1 p2 p3 p4 : ℕ) × ValueAt (with_hand t place) e p p1 × ChoicesAt t place arms inner q p1 p2 × At (with_hand t place) p2 (takes_one 0 drops) p3 ×
+      OtherAt t other inner p3 p4 × EndAt (with_hand t place) p4 q
+  StatementAt t (statement place (Repeat course body)) inner p q = LoopAt (with_hand t place) course (BodyAt t body) p q
+  StatementAt t (statement place Next) inner p q = NextAt (with_hand t place) inner p q
+  StatementAt t (statement place Quit) inner p q = QuitAt (with_hand t place) inner p q
+  StatementAt t (statement place (Return None)) inner p q = At (with_hand t place) p (calling.return_result t.cog) q
+  StatementAt t (statement place (Return (Some e))) inner p q =
+      (p1 : ℕ) × ValueAt (with_hand t place) e p p1 × At (with_hand t place) p1 (calling.return_value t.cog) q
+  StatementAt t (statement place (Abort None)) inner p q = At (with_hand t place) p (calling.abort_result t.cog) q
+  StatementAt t (statement place (Abort (Some e))) inner p q =
+      (p1 : ℕ) × ValueAt (with_hand t place) e p p1 × At (with_hand t place) p1 (calling.abort_value t.cog) q
 
   pub BodyAt : Compiled → Statements → Inner → (p q : ℕ) → Type 0
   BodyAt t no_statements inner p q = p ≡ q
@@ -140,16 +142,16 @@ abbrev mutual
   pub ArmsAt : Compiled → (place : Place) → Arms → Inner → (end p q : ℕ) → Type 0
   ArmsAt t place no_arms inner end p q = p ≡ q
   ArmsAt t place (arms ⊳ arm (no_items ▸ single e) negated body) inner end p q =
-      (p1 p2 p3 p4 : ℕ) × ArmsAt t place arms inner end p p1 × ValueAt (on t place) e p1 p2 ×
-      At (on t place) p2 (takes_one 0 (jumps_unless negated q)) p3 × BodyAt t body inner p3 p4 × EndAt (on t place) p4 end
+      (p1 p2 p3 p4 : ℕ) × ArmsAt t place arms inner end p p1 × ValueAt (with_hand t place) e p1 p2 ×
+      At (with_hand t place) p2 (takes_one 0 (jumps_unless negated q)) p3 × BodyAt t body inner p3 p4 × EndAt (with_hand t place) p4 end
   ArmsAt t place (arms ⊳ last) inner end p q = ⊥
 
   -- the tests of a CASE, and somewhere the bodies of its arms
   pub ChoicesAt : Compiled → (place : Place) → Arms → Inner → (end p q : ℕ) → Type 0
   ChoicesAt t place no_arms inner end p q = p ≡ q
   ChoicesAt t place (arms ⊳ arm items negated body) inner end p q =
-      (p1 a a1 a2 : ℕ) × ChoicesAt t place arms inner end p p1 × FitsAt (on t place) items a p1 q × At (on t place) a (takes_one 0 drops) a1 ×
-      BodyAt t body inner a1 a2 × EndAt (on t place) a2 end
+      (p1 a a1 a2 : ℕ) × ChoicesAt t place arms inner end p p1 × FitsAt (with_hand t place) items a p1 q × At (with_hand t place) a (takes_one 0 drops) a1 ×
+      BodyAt t body inner a1 a2 × EndAt (with_hand t place) a2 end
 
 -- a method: its body, and a return, which is made from no statement of the body
 abbrev pub MethodAt : Compiled → Statements → (p : ℕ) → Type 0

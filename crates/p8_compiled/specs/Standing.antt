@@ -17,13 +17,13 @@ use Rattle.p8_words.specs.Operators.{unary_value, binary_value, or_zero}
 use Rattle.p8_fold.specs.Values as constants
 use Rattle.p8_kinds.specs.declared.name_kinds.NameKind.{NameKind}
 use Rattle.p8_kinds.specs.declared.name_kinds.NameKind.TheVariants as kind_case
-use Rattle.p8_bcog.specs.declared.state.State.{State}
-use Rattle.p8_bcog.specs.declared.place.Place as place
+use Rattle.p8_bcog.specs.declared.state.SpinState.{SpinState}
+use Rattle.p8_bcog.specs.declared.variable_place.VariablePlace as place
 use Rattle.p8_bcog.specs.declared.step.Wanted.TheVariants as wanted_case
 use Rattle.p8_access.specs.declared.kinds.Width.{Width}
 use Rattle.p8_access.specs.declared.kinds.Access.{Access}
 use Rattle.p8_access.specs.declared.kinds.Origin.TheVariants as origin_case
-use Rattle.p8_bcog.specs.declared.place.Place.TheVariants as place_case
+use Rattle.p8_bcog.specs.declared.variable_place.VariablePlace.TheVariants as place_case
 use Rattle.p8_bcog.specs.Accesses.{ends, gets}
 use Rattle.p8_bcog.specs.Moves as moving
 use Rattle.p8_bcog.specs.Cogs as cogs
@@ -123,11 +123,11 @@ pub record Compiled : Type 0 where
   pub hand : Place
 
 -- the code of a statement
-abbrev pub on : Compiled → Place → Compiled
-on t hand = record t { hand = hand }
+abbrev pub with_hand : Compiled → Place → Compiled
+with_hand t hand = record t { hand = hand }
 
 -- where the method is read, as the cog stands there
-abbrev pub scope_of : Compiled → State → Scope
+abbrev pub scope_of : Compiled → SpinState → Scope
 scope_of t st = record {
   program = t.program;
   addresses = t.addresses;
@@ -148,32 +148,32 @@ is_method_kind kind = false
 abbrev pub names_method : Compiled → List ℕ → Bool
 names_method t name = is_method_kind (t.file.kind t.method name)
 
-abbrev pub At : Compiled → (p : ℕ) → (State → Course State) → (q : ℕ) → Type 0
+abbrev pub At : Compiled → (p : ℕ) → (SpinState → Course SpinState) → (q : ℕ) → Type 0
 At t p course q = Does t.memory t.cog t.table t.hand p course q
 
-abbrev pub site_of : Compiled → Variable → List ℕ → State → place.Place
+abbrev pub site_of : Compiled → Variable → List ℕ → SpinState → place.VariablePlace
 site_of t v names st = place_of (site (scope_of t st) v names)
 
 -- ---- what a bytecode does with a variable, by the operands that name it
 
-abbrev pub reads : Compiled → Variable → List ℕ → State → Course State
+abbrev pub reads : Compiled → Variable → List ℕ → SpinState → Course SpinState
 reads t v names st = places.reads_place wanted_case.Pushed (site_of t v names st) st
 
-abbrev pub writes : Compiled → (used : Bool) → Variable → List ℕ → ℕ → State → Course State
+abbrev pub writes : Compiled → (used : Bool) → Variable → List ℕ → ℕ → SpinState → Course SpinState
 writes t used v names value st = places.writes_place (site_of t v names st) value (if_used used value) st
 
-abbrev pub operates : Compiled → (effect : ℕ) → Variable → List ℕ → ℕ → State → Course State
+abbrev pub operates : Compiled → (effect : ℕ) → Variable → List ℕ → ℕ → SpinState → Course SpinState
 operates t effect v names right st = places.reads_place (wanted_case.Changed effect right) (site_of t v names st) st
 
-abbrev pub updates : Compiled → (effect : ℕ) → Variable → List ℕ → State → Course State
+abbrev pub updates : Compiled → (effect : ℕ) → Variable → List ℕ → SpinState → Course SpinState
 updates t effect v names st = places.reads_place (wanted_case.Changed effect 0) (site_of t v names st) st
 
 -- the old value is read where it is used
-abbrev pub replaces : Compiled → (used : Bool) → (value : ℕ) → Variable → List ℕ → State → Course State
+abbrev pub replaces : Compiled → (used : Bool) → (value : ℕ) → Variable → List ℕ → SpinState → Course SpinState
 replaces t true value v names st = places.reads_place (wanted_case.Replaced value) (site_of t v names st) st
 replaces t false value v names st = places.writes_place (site_of t v names st) value None st
 
-abbrev pub addresses_of : Compiled → Variable → List ℕ → State → Course State
+abbrev pub addresses_of : Compiled → Variable → List ℕ → SpinState → Course SpinState
 addresses_of t v names st = Finish (pushed (address_at (site (scope_of t st) v names)) st)
 
 abbrev pub ReadAt : Compiled → Variable → (p q : ℕ) → Type 0
@@ -203,24 +203,24 @@ AddressAt t v p q = At t p (takes_names (names_count v) 1 (addresses_of t v)) q
 
 -- ---- operators
 
-abbrev pub applies_one : (operator a : ℕ) → State → Course State
+abbrev pub applies_one : (operator a : ℕ) → SpinState → Course SpinState
 applies_one operator a st = Finish (pushed (unary_value operator a) st)
 
-abbrev pub applies_two : (operator a b : ℕ) → State → Course State
+abbrev pub applies_two : (operator a b : ℕ) → SpinState → Course SpinState
 applies_two operator a b st = Finish (pushed (binary_value operator a b) st)
 
 -- `@@`
-abbrev pub object_address : (a : ℕ) → State → Course State
+abbrev pub object_address : (a : ℕ) → SpinState → Course SpinState
 object_address a st = Finish (pushed ((st.pbase + a) % 2 ^ 16) st)
 
 -- the address of a text
-abbrev pub gives_text : (offset : ℕ) → State → Course State
+abbrev pub gives_text : (offset : ℕ) → SpinState → Course SpinState
 gives_text offset st = gives ((st.pbase + offset) % 2 ^ 16) st
 
 -- ---- calls
 
 -- a mark is opened, above which the arguments of a call are
-abbrev pub opens : (unused traps : Bool) → State → Course State
+abbrev pub opens : (unused traps : Bool) → SpinState → Course SpinState
 opens unused traps st =
     if nat_le 16384 (length st.marks) then Stop Why.Stack
     else Finish (record st { marks = record { outer = st.base; unused = unused; traps = traps } ∷ st.marks; base = length st.stack })
@@ -267,14 +267,14 @@ NameAt t name v p q = WhereSo (bytes_eq name result_word) (ReadAt t v p q) (Kind
 -- ---- LOOK functions: what is looked for lies on the stack, and above it the count of the next item
 
 -- an item is tried
-abbrev pub tries_item : (up : Bool) → (target wanted count value : ℕ) → State → Course State
+abbrev pub tries_item : (up : Bool) → (target wanted count value : ℕ) → SpinState → Course SpinState
 tries_item true target wanted count value st =
     Finish (if wanted == count then goes_to target (pushed value st) else pushed (sum_of count 1) (pushed wanted st))
 tries_item false target wanted count value st =
     Finish (if wanted == value then goes_to target (pushed count st) else pushed (sum_of count 1) (pushed wanted st))
 
 -- a range is tried
-abbrev pub tries_both : (up : Bool) → (target wanted count low high : ℕ) → State → Course State
+abbrev pub tries_both : (up : Bool) → (target wanted count low high : ℕ) → SpinState → Course SpinState
 tries_both true target wanted count low high st =
     Finish (if nat_le (difference wanted count) (distance low high) then goes_to target (pushed (toward low high (difference wanted count)) st)
     else pushed (behind_range count low high) (pushed wanted st))
@@ -283,56 +283,56 @@ tries_both false target wanted count low high st =
     else pushed (behind_range count low high) (pushed wanted st))
 
 -- no item fits
-abbrev pub look_fails : (wanted count : ℕ) → State → Course State
+abbrev pub look_fails : (wanted count : ℕ) → SpinState → Course SpinState
 look_fails wanted count st = Finish (pushed 0 st)
 
 -- ---- built-ins, by what lies on the stack and by whether their value is used
 
 -- the word of an access is left where it is used
-abbrev pub word_if : (used : Bool) → Access → State → Course State
+abbrev pub word_if : (used : Bool) → Access → SpinState → Course SpinState
 word_if true access st = gets access st
 word_if false access st = ends access None st
 
-abbrev pub cog_id : State → Course State
+abbrev pub cog_id : SpinState → Course SpinState
 cog_id st = gets access_case.CogId st
 
-abbrev pub reads_hub : (width : Width) (a : ℕ) → State → Course State
+abbrev pub reads_hub : (width : Width) (a : ℕ) → SpinState → Course SpinState
 reads_hub width a st = places.reads_place wanted_case.Pushed (place_case.Memory width (a % 2 ^ 16)) st
 
-abbrev pub measures_text : (a : ℕ) → State → Course State
+abbrev pub measures_text : (a : ℕ) → SpinState → Course SpinState
 measures_text a st = moving.counts (moving.room_from (a % 2 ^ 16)) (a % 2 ^ 16) 0 st
 
-abbrev pub compares_texts : (a b : ℕ) → State → Course State
+abbrev pub compares_texts : (a b : ℕ) → SpinState → Course SpinState
 compares_texts a b st = moving.compares (moving.room_from (a % 2 ^ 16)) (a % 2 ^ 16) (b % 2 ^ 16) st
 
-abbrev pub stops_cog : (a : ℕ) → State → Course State
+abbrev pub stops_cog : (a : ℕ) → SpinState → Course SpinState
 stops_cog a st = ends (access_case.CogStop (a % 8)) None st
 
-abbrev pub returns_lock : (a : ℕ) → State → Course State
+abbrev pub returns_lock : (a : ℕ) → SpinState → Course SpinState
 returns_lock a st = ends (access_case.LockRet (a % 8)) None st
 
-abbrev pub waits_until : (a : ℕ) → State → Course State
+abbrev pub waits_until : (a : ℕ) → SpinState → Course SpinState
 waits_until a st = ends (access_case.Wait (test_case.Count a)) None st
 
-abbrev pub sets_lock : (used : Bool) → (a : ℕ) → State → Course State
+abbrev pub sets_lock : (used : Bool) → (a : ℕ) → SpinState → Course SpinState
 sets_lock used a st = word_if used (access_case.LockSet (a % 8)) st
 
-abbrev pub clears_lock : (used : Bool) → (a : ℕ) → State → Course State
+abbrev pub clears_lock : (used : Bool) → (a : ℕ) → SpinState → Course SpinState
 clears_lock used a st = word_if used (access_case.LockClr (a % 8)) st
 
-abbrev pub fills_row : Width → (a b c : ℕ) → State → Course State
+abbrev pub fills_row : Width → (a b c : ℕ) → SpinState → Course SpinState
 fills_row width a b c st = moving.fills width (a % 2 ^ 16) b (moving.count_of c) st
 
-abbrev pub moves_row : Width → (a b c : ℕ) → State → Course State
+abbrev pub moves_row : Width → (a b c : ℕ) → SpinState → Course SpinState
 moves_row width a b c st = moving.moves width (a % 2 ^ 16) (b % 2 ^ 16) (moving.count_of c) st
 
-abbrev pub waits_equal : (a b c : ℕ) → State → Course State
+abbrev pub waits_equal : (a b c : ℕ) → SpinState → Course SpinState
 waits_equal a b c st = if c == 0 then ends (access_case.Wait (test_case.PinsEqual a b)) None st else Stop Why.Port
 
-abbrev pub waits_differ : (a b c : ℕ) → State → Course State
+abbrev pub waits_differ : (a b c : ℕ) → SpinState → Course SpinState
 waits_differ a b c st = if c == 0 then ends (access_case.Wait (test_case.PinsDiffer a b)) None st else Stop Why.Port
 
-abbrev pub starts_pasm : (used : Bool) → (id code par : ℕ) → State → Course State
+abbrev pub starts_pasm : (used : Bool) → (id code par : ℕ) → SpinState → Course SpinState
 starts_pasm used id code par st = word_if used (access_case.CogInit (cogs.target_of id) (origin_case.Pasm (cogs.long_address code) (cogs.long_address par))) st
 
 -- a value that is left, or dropped at once

@@ -9,7 +9,7 @@ ghost use Rattle.p8_access.specs.declared.order.Turn.{Turn};
 ghost use Rattle.p8_access.specs.Lives.{Entered};
 ghost use Rattle.p8_access.specs.Replays.{answer_of};
 ghost use Rattle.p8_access.specs.Timing.{Asks, Goes};
-ghost use Rattle.p8_bcog.specs.declared.state.State.{State};
+ghost use Rattle.p8_bcog.specs.declared.state.SpinState.{SpinState};
 ghost use Rattle.p8_bcog.specs.Replay.{lived};
 ghost use Rattle.p8_meaning.specs.Lives.{IsMethodOrigin, says, says_for};
 ghost use Rattle.p8_meaning.specs.Bounds.{made_of, IsSettled, IsBeginning};
@@ -46,7 +46,7 @@ pub fn code_keeps_meaning()
 pub fn accesses_are_asked_for_their_statements()
     ensures { (program : Program) → (addresses : Addresses) → (entered : Entered) → (placed : Placed entered.memory entered.cog program addresses) →
         (target : Target) → (frame : ℕ) → IsMethodOrigin program addresses entered.origin target frame → (turns : List Turn) → (done : ℕ) →
-        (s : State) → (begin : ℕ) → (left : List Turn) → (clock : ℕ) → (access : Access) → lived done entered turns ≡ Goes s begin left →
+        (s : SpinState) → (begin : ℕ) → (left : List Turn) → (clock : ℕ) → (access : Access) → lived done entered turns ≡ Goes s begin left →
         lived (suc done) entered turns ≡ Asks clock access → (bound : ℕ) → done < bound →
         (place : Place) × Contains placed.table (s.at, place) × (says_for program addresses target frame entered.cog (map answer_of turns) bound ≡ Some place) }
 {}

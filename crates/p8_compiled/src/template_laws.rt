@@ -7,7 +7,7 @@ ghost use Rattle.p8_tree.specs.declared.faults.Fault.{Fault};
 ghost use Rattle.p8_kinds.specs.Misuses.{MisuseInStatements};
 ghost use Rattle.p8_gen.specs.Methods.{bytes_of, method_code};
 ghost use Rattle.p8_gen.specs.Names.{Names, widened};
-ghost use Rattle.p8_compiled.specs.Standing.{Compiled, on};
+ghost use Rattle.p8_compiled.specs.Standing.{Compiled, with_hand};
 ghost use Rattle.p8_compiled.specs.Bodies.{MethodAt};
 ghost use Rattle.p8_compiled.specs.Placing.{HasCode, HasLines, IsNear, AreOps};
 ghost use Rattle.p8_compiled.specs.Agreeing.{Agrees, environment};
@@ -21,7 +21,7 @@ ghost use Rattle.p8_compiled.specs.Moving.{AreSameWays};
 pub fn templates_stand()
     ensures { (n : Names) → (t : Compiled) → (base : ℕ) → Agrees n t → (ss : Statements) → AreProperStatements ss → IsTrue (leave_loops false ss) →
         ((f : Fault) → ¬ MisuseInStatements (environment n) ss f) → HasCode t.memory base (method_code n ss) →
-        HasLines t.table base (method_code n ss).lines → MethodAt (on t n.statement) ss base }
+        HasLines t.table base (method_code n ss).lines → MethodAt (with_hand t n.statement) ss base }
 {}
 
 /// Law: the code of a method ends where its bytes do.

@@ -5,7 +5,7 @@ ghost use Rattle.p8_access.specs.declared.states.CogState.TheVariants.{Running};
 ghost use Rattle.p8_access.specs.Hub.{cog_state};
 ghost use Rattle.p8_access.specs.Lives.{Entered, SpinBegun};
 ghost use Rattle.p8_access.specs.Timing.{Goes};
-ghost use Rattle.p8_bcog.specs.declared.state.State.{State};
+ghost use Rattle.p8_bcog.specs.declared.state.SpinState.{SpinState};
 ghost use Rattle.p8_bcog.specs.Replay.{lived};
 ghost use Rattle.p8_access.specs.declared.order.Turn.{Turn};
 ghost use Rattle.p8_access.specs.Worlds.{World};
@@ -32,6 +32,6 @@ pub fn turns_come_after_few_bytecodes()
     ensures { (program : Program) → (addresses : Addresses) → (w : World) → IsWorldOf program addresses w → (turn : Turn) → (past : List Turn) →
         Legal asks w (turn ∷ past) → (origin : Origin) → cog_state w past turn.key.cog ≡ Running origin → (entered : Entered) →
         begun w past turn.key.cog ≡ Some (SpinBegun entered) →
-        (entered.memory ≡ w.memory) × ((done : ℕ) → (s : State) → (begin : ℕ) → (left : List Turn) →
+        (entered.memory ≡ w.memory) × ((done : ℕ) → (s : SpinState) → (begin : ℕ) → (left : List Turn) →
         lived done entered (since_begin past turn.key.cog) ≡ Goes s begin left → done < w.clocks) }
 {}

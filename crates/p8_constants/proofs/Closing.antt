@@ -4,12 +4,12 @@ use Rattle.std.specs.Prelude.{Contains}
 use Rattle.std.proofs.lemmas.Bool.{cases_eq}
 use Rattle.std.proofs.lemmas.List.{length-set, length-take-le, length-drop, get_or-take, get_or-drop, get_or-set_same, get_or-set_other, take_more, take_all, drop_all, append-nil}
 use Rattle.std.proofs.lemmas.List.Elements.{Contains-append_left, Contains-push}
-use Rattle.p8_constants.specs.declared.search.Mark.{Mark}
-use Rattle.p8_constants.specs.declared.search.Mark.TheVariants.{New, Done}
+use Rattle.p8_constants.specs.declared.search.NodeState.{NodeState}
+use Rattle.p8_constants.specs.declared.search.NodeState.TheVariants.{New, Done}
 use Rattle.p8_constants.specs.Searches.{mark, node_at, IsClosed}
 use Rattle.p8_constants.proofs.Finishing.{IsPartFrom}
 
-pub closed_more : (old marks : List Mark) (nodes : List ℕ) (i number : ℕ) → i < length nodes → node_at nodes i < length old → IsClosed old (take i nodes) number marks → IsClosed old (take (i + 1) nodes) number (set marks (node_at nodes i) (Done number))
+pub closed_more : (old marks : List NodeState) (nodes : List ℕ) (i number : ℕ) → i < length nodes → node_at nodes i < length old → IsClosed old (take i nodes) number marks → IsClosed old (take (i + 1) nodes) number (set marks (node_at nodes i) (Done number))
 closed_more old marks nodes i number lt within k = record {
   size = length-set marks (node_at nodes i) (Done number) ∙ k.size;
   closed = λ p h.

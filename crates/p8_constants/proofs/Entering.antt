@@ -2,8 +2,8 @@
 use Rattle.std.proofs.Common.{◌≡◌, inl, inr, ℕ, ◌+◌, ◌-◌, ◌<◌, ◌≤◌, List, [], ◌∷◌, ◌++◌, length, set, get_or, refl, sym, ap, ◌∙◌, subst, arith, length-append}
 use Rattle.std.proofs.lemmas.Bool.{cases_lt, cases_eq}
 use Rattle.std.proofs.lemmas.List.{length-set, length_push, get_or-set_same, get_or-set_other, get_or-append_right, get_or_default}
-use Rattle.p8_constants.specs.declared.search.Mark.{Mark}
-use Rattle.p8_constants.specs.declared.search.Mark.TheVariants.{New, Open, Done}
+use Rattle.p8_constants.specs.declared.search.NodeState.{NodeState}
+use Rattle.p8_constants.specs.declared.search.NodeState.TheVariants.{New, Open, Done}
 use Rattle.p8_constants.specs.declared.search.Boundary.{Boundary}
 use Rattle.p8_constants.specs.Graphs.{targets_of, IsEdge, HasItsTargets, Reaches, itself}
 use Rattle.p8_constants.specs.Searches.{mark, node_at, boundary_at, total_of_new, IsSeen, finished, stacked, ahead, held, IsSearch, State, IsStateHolding, IsReached, work, IsFurther}
@@ -11,7 +11,7 @@ use Rattle.p8_constants.proofs.Paths.{joined, edge, between, pushed, at_left, at
 use Rattle.p8_constants.proofs.Totals.{found}
 
 -- each node on the stack leads to the begin of the component on top
-pub to_top : {Held : ℕ → Type 0} (g : List (List ℕ)) (marks : List Mark) (nodes ts : List ℕ) (bs : List Boundary) (count i : ℕ) → IsSearch g Held marks nodes ts bs count → i < length nodes → 0 < length bs → Reaches g (node_at nodes i) (node_at nodes (boundary_at bs (length bs - 1)).node)
+pub to_top : {Held : ℕ → Type 0} (g : List (List ℕ)) (marks : List NodeState) (nodes ts : List ℕ) (bs : List Boundary) (count i : ℕ) → IsSearch g Held marks nodes ts bs count → i < length nodes → 0 < length bs → Reaches g (node_at nodes i) (node_at nodes (boundary_at bs (length bs - 1)).node)
 to_top g marks nodes ts bs count i k lt some =
     let top : length bs - 1 < length bs = omega arith in
     elim (cases_lt i (boundary_at bs (length bs - 1)).node) [
@@ -19,8 +19,8 @@ to_top g marks nodes ts bs count i k lt some =
       | inr above ↦ k.back (length bs - 1) i top above lt (λ l over within. absurd (omega arith))
     ]
 
-module _ (g : List (List ℕ)) (marks : List Mark) (nodes ts : List ℕ) (bs : List Boundary) (count t : ℕ) (k : IsSearch g (λ b. b ≡ t) marks nodes ts bs count) (own : HasItsTargets g) (lt : t < length g) (new : mark marks t ≡ New) (reached : (n : ℕ) → n < length bs → Reaches g (node_at nodes (boundary_at bs n).node) t) where
-  abbrev marks' : List Mark
+module _ (g : List (List ℕ)) (marks : List NodeState) (nodes ts : List ℕ) (bs : List Boundary) (count t : ℕ) (k : IsSearch g (λ b. b ≡ t) marks nodes ts bs count) (own : HasItsTargets g) (lt : t < length g) (new : mark marks t ≡ New) (reached : (n : ℕ) → n < length bs → Reaches g (node_at nodes (boundary_at bs n).node) t) where
+  abbrev marks' : List NodeState
   marks' = set marks t (Open (length nodes))
 
   abbrev nodes' : List ℕ
@@ -51,7 +51,7 @@ module _ (g : List (List ℕ)) (marks : List Mark) (nodes ts : List ℕ) (bs : L
   other a differs = get_or-set_other marks t a (Open (length nodes)) New differs
 
   -- a node that was found is another one
-  not_new : (a : ℕ) (m : Mark) → mark marks a ≡ m → ¬ (m ≡ New) → ¬ (a ≡ t)
+  not_new : (a : ℕ) (m : NodeState) → mark marks a ≡ m → ¬ (m ≡ New) → ¬ (a ≡ t)
   not_new a m is old same = old (sym is ∙ (ap (mark marks) same ∙ new))
 
   open_other : (a p : ℕ) → mark marks a ≡ Open p → ¬ (a ≡ t)
@@ -264,7 +264,7 @@ module _ (g : List (List ℕ)) (marks : List Mark) (nodes ts : List ℕ) (bs : L
 
 -- the same of a state, at lists that are equal to these
 module _ (g : List (List ℕ)) (old : State) (t : ℕ) (k : IsStateHolding g (λ b. b ≡ t) old) (own : HasItsTargets g) (lt : t < length g) (new : mark old.marks t ≡ New) (reached : IsReached g old t) where
-  pub entering : (marks : List Mark) (nodes ts : List ℕ) (bs : List Boundary) (count p q : ℕ) (nodes2 ts2 : List ℕ) (bs2 : List Boundary) → (let s : State = record { marks = marks; nodes = nodes; targets = ts; boundaries = bs; count = count } in s ≡ old) → p ≡ length nodes → q ≡ length ts → nodes2 ≡ nodes ++ t ∷ [] → ts2 ≡ ts ++ targets_of g t → bs2 ≡ bs ++ record { node = p; target = q } ∷ []
+  pub entering : (marks : List NodeState) (nodes ts : List ℕ) (bs : List Boundary) (count p q : ℕ) (nodes2 ts2 : List ℕ) (bs2 : List Boundary) → (let s : State = record { marks = marks; nodes = nodes; targets = ts; boundaries = bs; count = count } in s ≡ old) → p ≡ length nodes → q ≡ length ts → nodes2 ≡ nodes ++ t ∷ [] → ts2 ≡ ts ++ targets_of g t → bs2 ≡ bs ++ record { node = p; target = q } ∷ []
       → IsSearch g (λ b. ⊥) (set marks t (Open p)) nodes2 ts2 bs2 count × (total_of_new (λ ts. length ts + 2) g (set marks t (Open p)) + length ts2 + length bs2 < work g old) × IsFurther old.marks (set marks t (Open p)) × ¬ (mark (set marks t (Open p)) t ≡ New)
   entering marks nodes ts bs count p q nodes2 ts2 bs2 view ep eq en et eb =
       let eb' : bs2 ≡ bs ++ record { node = length nodes; target = length ts } ∷ [] = eb ∙ (ap (λ p. bs ++ record { node = p; target = q } ∷ []) ep ∙ ap (λ q. bs ++ record { node = length nodes; target = q } ∷ []) eq) in

@@ -3,8 +3,8 @@ use Rattle.std.proofs.Common.{◌≡◌, ◌⊎◌, inl, inr, ℕ, ◌+◌, ◌-
 use Rattle.std.specs.Prelude.{Contains}
 use Rattle.std.proofs.lemmas.Bool.{cases_lt, cases_eq}
 use Rattle.std.proofs.lemmas.List.{length-take-le, get_or-take, get_or_default, get_or_past}
-use Rattle.p8_constants.specs.declared.search.Mark.{Mark}
-use Rattle.p8_constants.specs.declared.search.Mark.TheVariants.{New, Open, Done}
+use Rattle.p8_constants.specs.declared.search.NodeState.{NodeState}
+use Rattle.p8_constants.specs.declared.search.NodeState.TheVariants.{New, Open, Done}
 use Rattle.p8_constants.specs.declared.search.Boundary.{Boundary}
 use Rattle.p8_constants.specs.Graphs.{IsEdge, Reaches}
 use Rattle.p8_constants.specs.Searches.{mark, node_at, boundary_at, total_of_new, IsSeen, finished, stacked, ahead, held, IsSearch, State, IsState, work, IsClosed, IsFurther}
@@ -16,7 +16,7 @@ pub record IsPartFrom (nodes : List ℕ) (n : ℕ) (part : List ℕ) : Type 0 wh
   pub size : length part + n ≡ length nodes
   pub at : (i : ℕ) → i < length part → node_at part i ≡ node_at nodes (n + i)
 
-module _ (g : List (List ℕ)) (marks : List Mark) (nodes ts : List ℕ) (bs : List Boundary) (count : ℕ) (k : IsSearch g (λ b. ⊥) marks nodes ts bs count) (some : 0 < length bs) (used : length ts ≤ (boundary_at bs (length bs - 1)).target) (part : List ℕ) (marks' : List Mark) (is_part : IsPartFrom nodes (boundary_at bs (length bs - 1)).node part) (closing : IsClosed marks part count marks') where
+module _ (g : List (List ℕ)) (marks : List NodeState) (nodes ts : List ℕ) (bs : List Boundary) (count : ℕ) (k : IsSearch g (λ b. ⊥) marks nodes ts bs count) (some : 0 < length bs) (used : length ts ≤ (boundary_at bs (length bs - 1)).target) (part : List ℕ) (marks' : List NodeState) (is_part : IsPartFrom nodes (boundary_at bs (length bs - 1)).node part) (closing : IsClosed marks part count marks') where
   abbrev top : ℕ
   top = length bs - 1
 
@@ -43,7 +43,7 @@ module _ (g : List (List ℕ)) (marks : List Mark) (nodes ts : List ℕ) (bs : L
       let at : node_at nodes (begin + i) ≡ a = sym (is_part.at i lt) ∙ (get_or_default part i 0 a lt ∙ is) in
       (begin + i, omega arith, ap (mark marks) (sym at) ∙ k.placed (begin + i) (omega (arith, is_part.size)))
 
-  stays : (a : ℕ) (m : Mark) → mark marks a ≡ m → ((q : ℕ) → begin ≤ q → ¬ (m ≡ Open q)) → mark marks' a ≡ m
+  stays : (a : ℕ) (m : NodeState) → mark marks a ≡ m → ((q : ℕ) → begin ≤ q → ¬ (m ≡ Open q)) → mark marks' a ≡ m
   stays a m is never = closing.others a (λ c. let found = in_part a c in never found.0 found.1 (sym is ∙ found.2)) ∙ is
 
   stays_new : (a : ℕ) → mark marks a ≡ New → mark marks' a ≡ New
@@ -231,7 +231,7 @@ module _ (g : List (List ℕ)) (marks : List Mark) (nodes ts : List ℕ) (bs : L
   less_work = let total : total_of_new (λ ts. length ts + 2) g marks' ≡ total_of_new (λ ts. length ts + 2) g marks = same_total (λ ts. length ts + 2) g marks marks' (sym closing.size) stays_new was_new in omega (arith, count_boundaries, total)
 
 -- the same of a state, at lists that are equal to these
-pub finishing : (g : List (List ℕ)) (old : State) → IsState g old → 0 < length old.boundaries → length old.targets ≤ (boundary_at old.boundaries (length old.boundaries - 1)).target → (marks marks2 : List Mark) (nodes nodes2 ts part : List ℕ) (bs bs2 : List Boundary) (count from last : ℕ) → (let s : State = record { marks = marks; nodes = nodes; targets = ts; boundaries = bs; count = count } in s ≡ old) → last ≡ length bs - 1 → from ≡ (boundary_at bs last).node → IsPartFrom nodes from part → IsClosed marks part count marks2 → nodes2 ≡ take from nodes → bs2 ≡ take last bs
+pub finishing : (g : List (List ℕ)) (old : State) → IsState g old → 0 < length old.boundaries → length old.targets ≤ (boundary_at old.boundaries (length old.boundaries - 1)).target → (marks marks2 : List NodeState) (nodes nodes2 ts part : List ℕ) (bs bs2 : List Boundary) (count from last : ℕ) → (let s : State = record { marks = marks; nodes = nodes; targets = ts; boundaries = bs; count = count } in s ≡ old) → last ≡ length bs - 1 → from ≡ (boundary_at bs last).node → IsPartFrom nodes from part → IsClosed marks part count marks2 → nodes2 ≡ take from nodes → bs2 ≡ take last bs
     → IsSearch g (λ b. ⊥) marks2 nodes2 ts bs2 (count + 1) × (total_of_new (λ ts. length ts + 2) g marks2 + length ts + length bs2 < work g old) × IsFurther old.marks marks2
 finishing g old k some used marks marks2 nodes nodes2 ts part bs bs2 count from last view el ef is_part closing en eb =
     let k' = subst (IsState g) (sym view) k in

@@ -2,8 +2,8 @@
 use Rattle.std.proofs.Common.{◌≡◌, inl, inr, ℕ, ◌+◌, ◌-◌, ◌<◌, ◌≤◌, List, [], ◌∷◌, ◌++◌, length, take, get_or, refl, sym, ap, ◌∙◌, subst, arith}
 use Rattle.std.proofs.lemmas.Bool.{cases_lt, cases_eq}
 use Rattle.std.proofs.lemmas.List.{length-take-le, get_or-take, length_push, get_or_read}
-use Rattle.p8_constants.specs.declared.search.Mark.{Mark}
-use Rattle.p8_constants.specs.declared.search.Mark.TheVariants.{Open, Done}
+use Rattle.p8_constants.specs.declared.search.NodeState.{NodeState}
+use Rattle.p8_constants.specs.declared.search.NodeState.TheVariants.{Open, Done}
 use Rattle.p8_constants.specs.declared.search.Boundary.{Boundary}
 use Rattle.p8_constants.specs.Graphs.{Reaches}
 use Rattle.p8_constants.specs.Searches.{mark, node_at, boundary_at, total_of_new, IsSeen, finished, stacked, ahead, held, IsSearch, State, IsStateHolding, IsState, IsReached, work, IsCut}
@@ -12,7 +12,7 @@ use Rattle.p8_constants.proofs.Entering.{to_top}
 
 -- ---- a target is taken
 
-module _ (g : List (List ℕ)) (marks : List Mark) (nodes ts : List ℕ) (bs : List Boundary) (count t : ℕ) (k : IsSearch g (λ b. ⊥) marks nodes (ts ++ t ∷ []) bs count) (top : (boundary_at bs (length bs - 1)).target ≤ length ts) where
+module _ (g : List (List ℕ)) (marks : List NodeState) (nodes ts : List ℕ) (bs : List Boundary) (count t : ℕ) (k : IsSearch g (λ b. ⊥) marks nodes (ts ++ t ∷ []) bs count) (top : (boundary_at bs (length bs - 1)).target ≤ length ts) where
   under_top : (n : ℕ) → n < length bs → (boundary_at bs n).target ≤ length ts
   under_top n h = elim (cases_eq n (length bs - 1)) [
     | inl same ↦ omega (arith, ap (λ m. (boundary_at bs m).target) same)
@@ -60,7 +60,7 @@ module _ (g : List (List ℕ)) (marks : List Mark) (nodes ts : List ℕ) (bs : L
 
 -- ---- it is finished already
 
-skipped_seen : (marks : List Mark) (nodes ts : List ℕ) (c : Boundary) (b t n : ℕ) → mark marks t ≡ Done n → IsSeen (λ b. b ≡ t) marks nodes ts c b → IsSeen (λ b. ⊥) marks nodes ts c b
+skipped_seen : (marks : List NodeState) (nodes ts : List ℕ) (c : Boundary) (b t n : ℕ) → mark marks t ≡ Done n → IsSeen (λ b. b ≡ t) marks nodes ts c b → IsSeen (λ b. ⊥) marks nodes ts c b
 skipped_seen marks nodes ts c b t n done (finished number is) = finished number is
 skipped_seen marks nodes ts c b t n done (stacked q low is above) = stacked q low is above
 skipped_seen marks nodes ts c b t n done (ahead x low is above) = ahead x low is above
@@ -89,7 +89,7 @@ skipped g s t n k done = record {
 
 -- ---- it is open: the components above its own are one with it
 
-module _ (g : List (List ℕ)) (marks : List Mark) (nodes ts : List ℕ) (bs : List Boundary) (count t p m : ℕ) (k : IsSearch g (λ b. b ≡ t) marks nodes ts bs count) (open_ : mark marks t ≡ Open p) (reached : (n : ℕ) → n < length bs → Reaches g (node_at nodes (boundary_at bs n).node) t) (cut : IsCut bs p m) where
+module _ (g : List (List ℕ)) (marks : List NodeState) (nodes ts : List ℕ) (bs : List Boundary) (count t p m : ℕ) (k : IsSearch g (λ b. b ≡ t) marks nodes ts bs count) (open_ : mark marks t ≡ Open p) (reached : (n : ℕ) → n < length bs → Reaches g (node_at nodes (boundary_at bs n).node) t) (cut : IsCut bs p m) where
   count_kept : length (take m bs) ≡ m
   count_kept = length-take-le m bs cut.within
 
@@ -175,7 +175,7 @@ module _ (g : List (List ℕ)) (marks : List Mark) (nodes ts : List ℕ) (bs : L
 
 -- ---- the same of a state, at lists that are equal to these
 
-pub merging : (g : List (List ℕ)) (old : State) (t p m : ℕ) → IsStateHolding g (λ b. b ≡ t) old → IsReached g old t → mark old.marks t ≡ Open p → (marks : List Mark) (nodes ts : List ℕ) (bs bs2 : List Boundary) (count : ℕ) → (let s : State = record { marks = marks; nodes = nodes; targets = ts; boundaries = bs; count = count } in s ≡ old) → IsCut bs p m → bs2 ≡ take m bs
+pub merging : (g : List (List ℕ)) (old : State) (t p m : ℕ) → IsStateHolding g (λ b. b ≡ t) old → IsReached g old t → mark old.marks t ≡ Open p → (marks : List NodeState) (nodes ts : List ℕ) (bs bs2 : List Boundary) (count : ℕ) → (let s : State = record { marks = marks; nodes = nodes; targets = ts; boundaries = bs; count = count } in s ≡ old) → IsCut bs p m → bs2 ≡ take m bs
     → IsSearch g (λ b. ⊥) marks nodes ts bs2 count × (total_of_new (λ ts. length ts + 2) g marks + length ts + length bs2 ≤ work g old)
 merging g old t p m k reached open_ marks nodes ts bs bs2 count view cut e =
     let k' = subst (IsStateHolding g (λ b. b ≡ t)) (sym view) k in
@@ -185,7 +185,7 @@ merging g old t p m k reached open_ marks nodes ts bs bs2 count view cut e =
     let less = subst (λ s. total_of_new (λ ts. length ts + 2) g marks + length ts + length (take m bs) ≤ work g s) view shorter in
     rw e (merged g marks nodes ts bs count t p m k' open' reached' cut, less)
 
-pub taking : (g : List (List ℕ)) (old : State) → IsState g old → (marks : List Mark) (nodes ts2 ts : List ℕ) (bs : List Boundary) (count t : ℕ) → (let s : State = record { marks = marks; nodes = nodes; targets = ts2; boundaries = bs; count = count } in s ≡ old) → ts2 ≡ ts ++ t ∷ [] → (boundary_at bs (length bs - 1)).target ≤ length ts
+pub taking : (g : List (List ℕ)) (old : State) → IsState g old → (marks : List NodeState) (nodes ts2 ts : List ℕ) (bs : List Boundary) (count t : ℕ) → (let s : State = record { marks = marks; nodes = nodes; targets = ts2; boundaries = bs; count = count } in s ≡ old) → ts2 ≡ ts ++ t ∷ [] → (boundary_at bs (length bs - 1)).target ≤ length ts
     → IsSearch g (λ b. b ≡ t) marks nodes ts bs count × (t < length g) × ((n : ℕ) → n < length bs → Reaches g (node_at nodes (boundary_at bs n).node) t)
 taking g old k marks nodes ts2 ts bs count t view e top =
     let k1 = subst (IsState g) (sym view) k in

@@ -3,7 +3,7 @@ use Rattle.std.proofs.Common.{◌≡◌, ◌≢◌, ◌↔◌, inl, inr, ℕ, �
 use Rattle.std.proofs.lemmas.Bool.{cases_lt}
 use Rattle.std.proofs.lemmas.List.{get_or_past, get_or-replicate, length-replicate}
 use Rattle.std.proofs.Math.ListN.{get_or-map, length-map}
-use Rattle.p8_constants.specs.declared.search.Mark.TheVariants.{New, Done}
+use Rattle.p8_constants.specs.declared.search.NodeState.TheVariants.{New, Done}
 use Rattle.p8_constants.specs.Graphs.{targets_of, IsEdge, Reaches, itself, along}
 use Rattle.p8_constants.specs.Searches.{mark, State, IsState, number_of}
 use Rattle.p8_constants.proofs.Totals.{mark_cases, all_new}

@@ -1,12 +1,12 @@
 -- Sums over the nodes that aren't found yet.
 use Rattle.std.proofs.Common.{◌≡◌, ◌⊎◌, inl, inr, ℕ, zero, suc, ◌+◌, ◌<◌, ◌≤◌, List, [], ◌∷◌, length, set, replicate, refl, ap, arith}
-use Rattle.p8_constants.specs.declared.search.Mark.{Mark}
-use Rattle.p8_constants.specs.declared.search.Mark.TheVariants.{New, Open, Done}
+use Rattle.p8_constants.specs.declared.search.NodeState.{NodeState}
+use Rattle.p8_constants.specs.declared.search.NodeState.TheVariants.{New, Open, Done}
 use Rattle.p8_constants.specs.Graphs.{targets_of}
 use Rattle.p8_constants.specs.Searches.{mark, total_of_new}
 
 -- a node that is found no longer counts
-pub found : (f : List ℕ → ℕ) (g : List (List ℕ)) (marks : List Mark) (a p : ℕ) → a < length g → a < length marks → mark marks a ≡ New → total_of_new f g (set marks a (Open p)) + f (targets_of g a) ≡ total_of_new f g marks
+pub found : (f : List ℕ → ℕ) (g : List (List ℕ)) (marks : List NodeState) (a p : ℕ) → a < length g → a < length marks → mark marks a ≡ New → total_of_new f g (set marks a (Open p)) + f (targets_of g a) ≡ total_of_new f g marks
 found f [] marks a p l k new = absurd (omega arith)
 found f (ts ∷ g) [] a p l k new = absurd (omega arith)
 found f (ts ∷ g) (New ∷ marks) zero p l k new = omega arith
@@ -17,7 +17,7 @@ found f (ts ∷ g) (Open q ∷ marks) (suc a) p l k new = found f g marks a p (o
 found f (ts ∷ g) (Done n ∷ marks) (suc a) p l k new = found f g marks a p (omega arith) (omega arith) new
 
 -- the sum is the same where the same nodes are new
-pub same_total : (f : List ℕ → ℕ) (g : List (List ℕ)) (xs ys : List Mark) → length xs ≡ length ys → ((a : ℕ) → mark xs a ≡ New → mark ys a ≡ New) → ((a : ℕ) → mark ys a ≡ New → mark xs a ≡ New) → total_of_new f g ys ≡ total_of_new f g xs
+pub same_total : (f : List ℕ → ℕ) (g : List (List ℕ)) (xs ys : List NodeState) → length xs ≡ length ys → ((a : ℕ) → mark xs a ≡ New → mark ys a ≡ New) → ((a : ℕ) → mark ys a ≡ New → mark xs a ≡ New) → total_of_new f g ys ≡ total_of_new f g xs
 same_total f [] xs ys e to back = refl
 same_total f (ts ∷ g) [] [] e to back = refl
 same_total f (ts ∷ g) [] (y ∷ ys) e to back = absurd (omega arith)
@@ -26,7 +26,7 @@ same_total f (ts ∷ g) (x ∷ xs) (y ∷ ys) e to back =
     let rest : total_of_new f g ys ≡ total_of_new f g xs = same_total f g xs ys (omega arith) (λ a h. to (suc a) h) (λ a h. back (suc a) h) in
     both x y (λ h. to 0 h) (λ h. back 0 h) rest
   where
-    both : (x y : Mark) → (x ≡ New → y ≡ New) → (y ≡ New → x ≡ New) → total_of_new f g ys ≡ total_of_new f g xs → total_of_new f (ts ∷ g) (y ∷ ys) ≡ total_of_new f (ts ∷ g) (x ∷ xs)
+    both : (x y : NodeState) → (x ≡ New → y ≡ New) → (y ≡ New → x ≡ New) → total_of_new f g ys ≡ total_of_new f g xs → total_of_new f (ts ∷ g) (y ∷ ys) ≡ total_of_new f (ts ∷ g) (x ∷ xs)
     both New New to back rest = ap (λ n. f ts + n) rest
     both New (Open p) to back rest = absurd (let h : Open p ≡ New = to refl in cc)
     both New (Done n) to back rest = absurd (let h : Done n ≡ New = to refl in cc)
@@ -37,7 +37,7 @@ same_total f (ts ∷ g) (x ∷ xs) (y ∷ ys) e to back =
     both (Done n) (Open q) to back rest = rest
     both (Done n) (Done m) to back rest = rest
 
-pub mark_cases : (m : Mark) → (m ≡ New) ⊎ (((p : ℕ) × (m ≡ Open p)) ⊎ ((n : ℕ) × (m ≡ Done n)))
+pub mark_cases : (m : NodeState) → (m ≡ New) ⊎ (((p : ℕ) × (m ≡ Open p)) ⊎ ((n : ℕ) × (m ≡ Done n)))
 mark_cases New = inl refl
 mark_cases (Open p) = inr (inl (p, refl))
 mark_cases (Done n) = inr (inr (n, refl))

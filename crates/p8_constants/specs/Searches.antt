@@ -4,12 +4,12 @@
 -- each other, and each component leads to those above it. A second stack has the targets of edges that are still to be
 -- followed, cut by the same boundaries. The component on top is finished when its edges are used up.
 use Rattle.std.specs.Prelude.{◌≡◌, ℕ, ◌+◌, ◌-◌, ◌<◌, ◌≤◌, List, [], ◌∷◌, length, slice_index_or, Contains}
-use Rattle.p8_constants.specs.declared.search.Mark.{Mark}
-use Rattle.p8_constants.specs.declared.search.Mark.TheVariants.{New, Open, Done}
+use Rattle.p8_constants.specs.declared.search.NodeState.{NodeState}
+use Rattle.p8_constants.specs.declared.search.NodeState.TheVariants.{New, Open, Done}
 use Rattle.p8_constants.specs.declared.search.Boundary.{Boundary}
 use Rattle.p8_constants.specs.Graphs.{IsEdge, Reaches}
 
-abbrev pub mark : List Mark → ℕ → Mark
+abbrev pub mark : List NodeState → ℕ → NodeState
 mark marks a = slice_index_or marks a New
 
 abbrev pub node_at : List ℕ → ℕ → ℕ
@@ -19,7 +19,7 @@ abbrev pub boundary_at : List Boundary → ℕ → Boundary
 boundary_at bs k = slice_index_or bs k (record { node = 0; target = 0 })
 
 -- a sum over the nodes that aren't found yet
-abbrev pub total_of_new : (List ℕ → ℕ) → List (List ℕ) → List Mark → ℕ
+abbrev pub total_of_new : (List ℕ → ℕ) → List (List ℕ) → List NodeState → ℕ
 total_of_new f [] marks = 0
 total_of_new f (ts ∷ g) [] = 0
 total_of_new f (ts ∷ g) (New ∷ marks) = f ts + total_of_new f g marks
@@ -28,14 +28,14 @@ total_of_new f (ts ∷ g) (Done n ∷ marks) = total_of_new f g marks
 
 -- an edge to b of a node of the component k or above: b is finished, on the stack in k or above, still to be followed, or
 -- the one that is held
-pub data IsSeen (Held : ℕ → Type 0) (marks : List Mark) (nodes targets : List ℕ) (boundary : Boundary) (b : ℕ) : Type 0 where
+pub data IsSeen (Held : ℕ → Type 0) (marks : List NodeState) (nodes targets : List ℕ) (boundary : Boundary) (b : ℕ) : Type 0 where
   finished : (number : ℕ) → mark marks b ≡ Done number → IsSeen Held marks nodes targets boundary b
   stacked : (q : ℕ) → q < length nodes → node_at nodes q ≡ b → boundary.node ≤ q → IsSeen Held marks nodes targets boundary b
   ahead : (x : ℕ) → x < length targets → node_at targets x ≡ b → boundary.target ≤ x → IsSeen Held marks nodes targets boundary b
   held : Held b → IsSeen Held marks nodes targets boundary b
 
 -- edges to what is held may have been taken from the stack and not followed yet
-pub record IsSearch (g : List (List ℕ)) (Held : ℕ → Type 0) (marks : List Mark) (nodes targets : List ℕ) (bs : List Boundary) (count : ℕ) : Type 0 where
+pub record IsSearch (g : List (List ℕ)) (Held : ℕ → Type 0) (marks : List NodeState) (nodes targets : List ℕ) (bs : List Boundary) (count : ℕ) : Type 0 where
   pub size : length marks ≡ length g
   pub placed : (p : ℕ) → p < length nodes → mark marks (node_at nodes p) ≡ Open p
   pub stands : (a p : ℕ) → mark marks a ≡ Open p → (p < length nodes) × (node_at nodes p ≡ a)
@@ -59,7 +59,7 @@ pub record IsSearch (g : List (List ℕ)) (Held : ℕ → Type 0) (marks : List 
 
 -- what a search is, without where it lies in memory
 pub record State : Type 0 where
-  pub marks : List Mark
+  pub marks : List NodeState
   pub nodes : List ℕ
   pub targets : List ℕ
   pub boundaries : List Boundary
@@ -86,16 +86,16 @@ pub record IsCut (old : List Boundary) (position : ℕ) (kept : ℕ) : Type 0 wh
   pub below : 0 < kept → (boundary_at old (kept - 1)).node ≤ position
 
 -- these nodes got a number, and nothing else changed
-pub record IsClosed (old : List Mark) (nodes : List ℕ) (number : ℕ) (new : List Mark) : Type 0 where
+pub record IsClosed (old : List NodeState) (nodes : List ℕ) (number : ℕ) (new : List NodeState) : Type 0 where
   pub size : length new ≡ length old
   pub closed : (p : ℕ) → p < length nodes → mark new (node_at nodes p) ≡ Done number
   pub others : (a : ℕ) → ¬ Contains nodes a → mark new a ≡ mark old a
 
 -- what was found stays found
-pub record IsFurther (old new : List Mark) : Type 0 where
+pub record IsFurther (old new : List NodeState) : Type 0 where
   pub found : (a : ℕ) → ¬ (mark old a ≡ New) → ¬ (mark new a ≡ New)
 
-abbrev pub number_of : Mark → ℕ
+abbrev pub number_of : NodeState → ℕ
 number_of New = 0
 number_of (Open p) = 0
 number_of (Done n) = n

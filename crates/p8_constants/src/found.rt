@@ -17,7 +17,7 @@ use std::alloc::Global;
 
 /// The constants of a file, and what is wrong with them.
 #[derive(Drop)]
-pub struct Found {
+pub struct FileConstants {
     /// What names mean: those outside, and each constant of the file with its value. A refused expression counts as 0.
     pub consts: Consts,
     /// The first fault of the expressions of `CON`: 12, 13, 15 or 16.
@@ -28,7 +28,11 @@ pub struct Found {
 ///
 /// A constant may be used before its line. A name that has an entry in `outside` means that, also where the file defines it.
 /// It takes time and memory in proportion to the file, but for look-ups of names, which take the logarithm of their number.
-pub fn constants_of(alloc: Global, file: &SourceFile, outside: Consts) -> Result<Found, NoMemory>
+pub fn constants_of(
+    alloc: Global,
+    file: &SourceFile,
+    outside: Consts,
+) -> Result<FileConstants, NoMemory>
     ensures outside { IfOk result (λ found. (n : List ℕ) → IsSome ((setting_of outside).name n) →
         (setting_of found.consts).name n ≡ (setting_of outside).name n) }
     ensures constants { IfOk result (λ found. (n : List ℕ) → IsConstant (scope_of (setting_of outside) (source_of file.now)) n →
@@ -52,5 +56,5 @@ pub fn constants_of(alloc: Global, file: &SourceFile, outside: Consts) -> Result
     }
     evaluation.enter_all(&plan)?;
     let Evaluation { consts, fault, .. } = evaluation;
-    Ok(Found { consts, fault })
+    Ok(FileConstants { consts, fault })
 }

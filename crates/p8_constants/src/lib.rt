@@ -4,11 +4,11 @@
 //! the graph of what mentions what: its strongly connected components are numbered so that no edge leads to a greater number.
 #![tactic(auto)]
 
+mod constant_graph;
 mod directed_graph;
 mod evaluation;
 mod first_faults;
 mod found;
-mod graph;
 mod index;
 mod instances;
 mod items;
@@ -27,7 +27,7 @@ mod rules;
 mod search;
 
 pub use directed_graph::Graph;
-pub use found::{Found, constants_of};
+pub use found::{FileConstants, constants_of};
 pub use instances::first_instance_fault;
 pub use items::{Item, items_of};
 pub use labels::first_label_repeat;

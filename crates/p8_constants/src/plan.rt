@@ -4,7 +4,7 @@ ghost use Rattle.p8_tree.specs.Views.{source_of};
 ghost use Rattle.p8_fold.specs.ConstantEntries.{setting_of, at_bytes};
 ghost use Rattle.p8_constants.specs.Rows.{rows_from, rows_of, IsPlan};
 
-use crate::graph::graph_of;
+use crate::constant_graph::graph_of;
 use crate::index::Index;
 use crate::node_order::in_order;
 use crate::numbering::components;

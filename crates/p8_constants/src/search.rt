@@ -1,6 +1,6 @@
 // The search for components: path-based, after Gabow.
 ghost use Rattle.std.specs.Prelude.{◌≡◌, ℕ, ◌+◌, ◌<◌, ◌≤◌, ◌≢◌, ◌-◌, List, [], ◌∷◌, ◌++◌, OnOk, IfOk, length, map, replicate, All};
-ghost use Rattle.p8_constants.specs.declared.search.Mark.TheVariants.{New, Open};
+ghost use Rattle.p8_constants.specs.declared.search.NodeState.TheVariants.{New, Open};
 ghost use Rattle.p8_constants.specs.Graphs.{HasItsTargets};
 ghost use Rattle.p8_constants.specs.Searches.{mark, boundary_at, State, IsState, IsStateHolding, IsReached, work, IsCut, IsClosed, IsFurther, number_of};
 
@@ -11,7 +11,7 @@ use std::marker::Model;
 
 /// How far the search has come with a node.
 #[derive(Clone, Copy, Drop)]
-pub(crate) enum Mark {
+pub(crate) enum NodeState {
     /// It isn't found yet.
     New,
     /// It stands on the stack, at this position.
@@ -20,14 +20,14 @@ pub(crate) enum Mark {
     Done(usize),
 }
 
-impl Mark {
+impl NodeState {
     // The component's number, or 0 where it isn't finished.
     fn number(self) -> usize
         ensures { result ≡ number_of self }
     {
         match self {
-            Mark::New | Mark::Open(_) => 0,
-            Mark::Done(number) => number,
+            NodeState::New | NodeState::Open(_) => 0,
+            NodeState::Done(number) => number,
         }
     }
 }
@@ -42,7 +42,7 @@ pub(crate) struct Boundary {
 /// A search under way.
 #[derive(Drop)]
 pub(crate) struct Search {
-    marks: Vec<Mark>,
+    marks: Vec<NodeState>,
     nodes: Vec<usize>,
     targets: Vec<usize>,
     boundaries: Vec<Boundary>,
@@ -63,7 +63,7 @@ impl Search {
         ensures { IfOk result (λ s. s ≡ record { marks = replicate size New; nodes = []; targets = []; boundaries = []; count = 0 }) }
     {
         Ok(Search {
-            marks: vec![in alloc; Mark::New; size]?,
+            marks: vec![in alloc; NodeState::New; size]?,
             nodes: Vec::new(alloc),
             targets: Vec::new(alloc),
             boundaries: Vec::new(alloc),
@@ -87,7 +87,7 @@ impl Search {
             node: self.nodes.len(),
             target: self.targets.len(),
         };
-        self.marks[node] = Mark::Open(boundary.node);
+        self.marks[node] = NodeState::Open(boundary.node);
         add_boundary(&mut self.boundaries, boundary)?;
         add_node(&mut self.nodes, node)?;
         self.targets.extend_from_slice(graph.targets(node))?;
@@ -131,12 +131,12 @@ impl Search {
         ensures further { OnOk result (IsFurther self.old.marks self.new.marks) }
     {
         match self.marks[target] {
-            Mark::New => self.enter(target, graph),
-            Mark::Open(position) => {
+            NodeState::New => self.enter(target, graph),
+            NodeState::Open(position) => {
                 self.merge(position);
                 Ok(())
             }
-            Mark::Done(_) => Ok(()),
+            NodeState::Done(_) => Ok(()),
         }
     }
 
@@ -170,7 +170,7 @@ impl Search {
         ensures further { OnOk result (IsFurther self.old.marks self.new.marks) }
         ensures found { OnOk result (mark self.new.marks node ≢ New) }
     {
-        if let Mark::New = self.marks[node] {
+        if let NodeState::New = self.marks[node] {
             self.enter(node, graph)?;
             while !self.boundaries.is_empty() {
                 self.step(graph)?;
@@ -214,11 +214,11 @@ fn boundaries_up_to(boundaries: &[Boundary], position: usize) -> usize
 }
 
 // Gives the nodes a number.
-fn close(marks: &mut [Mark], nodes: &[usize], number: usize)
+fn close(marks: &mut [NodeState], nodes: &[usize], number: usize)
     requires { All (λ a. a < length marks.old) nodes.now }
     ensures { IsClosed marks.old nodes.now number marks.new }
 {
     for node in nodes {
-        marks[*node] = Mark::Done(number);
+        marks[*node] = NodeState::Done(number);
     }
 }

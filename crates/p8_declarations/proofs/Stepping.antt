@@ -3,8 +3,8 @@ use Rattle.std.proofs.Common.{◌≡◌, ◌≢◌, [], ◌∷◌, List, Option,
 use Rattle.std.specs.Prelude.{option_map, MatchOption}
 use Rattle.p8_tree.specs.Sources.{Datum}
 use Rattle.p8_declarations.specs.declared.data_part.Part as code
-use Rattle.p8_declarations.specs.declared.data_row.Row.{Row}
-use Rattle.p8_declarations.specs.declared.items.Stage as code_stage
+use Rattle.p8_declarations.specs.declared.data_pieces.DataPieces.{DataPieces}
+use Rattle.p8_declarations.specs.declared.items.DataItemStage as code_stage
 use Rattle.p8_declarations.specs.DataParts.{Part}
 use Rattle.p8_declarations.specs.Lines.{Stage, items}
 use Rattle.p8_declarations.specs.DataViews.{part_of, rest, from, stage_of, Steps}
@@ -18,10 +18,10 @@ pub goes_on : (whole : Option (List Datum)) (read after : List Datum) (s t : Sta
 goes_on whole read after s t x row e h = e ∙ h row
 
 -- what is left is the part that stands next and what is left after it
-pub next_from : (o : Option code.Part) (old new : Row) → MatchOption o (rest old ≡ []) (λ x. rest old ≡ part_of x ∷ rest new) → rest old ≡ from o new
+pub next_from : (o : Option code.Part) (old new : DataPieces) → MatchOption o (rest old ≡ []) (λ x. rest old ≡ part_of x ∷ rest new) → rest old ≡ from o new
 next_from None old new h = h
 next_from (Some x) old new h = h
 
-pub no_stage : (o : Option code_stage.Stage) → ((t : code_stage.Stage) → o ≢ Some t) → option_map stage_of o ≡ None
+pub no_stage : (o : Option code_stage.DataItemStage) → ((t : code_stage.DataItemStage) → o ≢ Some t) → option_map stage_of o ≡ None
 no_stage None h = refl
 no_stage (Some t) h = absurd (h t refl)

@@ -6,10 +6,10 @@ use Rattle.p8_tree.specs.Sources.{Datum, Instruction, Line}
 use Rattle.p8_lexer.specs.Pieces.{pieces_of}
 use Rattle.p8_declarations.specs.declared.data_part.Part as code
 use Rattle.p8_declarations.specs.declared.data_part.Part.TheVariants as code_case
-use Rattle.p8_declarations.specs.declared.data_row.Row.{Row}
-use Rattle.p8_declarations.specs.declared.lines.Head.{Head}
-use Rattle.p8_declarations.specs.declared.items.Stage as code_stage
-use Rattle.p8_declarations.specs.declared.items.Stage.TheVariants as stage_case
+use Rattle.p8_declarations.specs.declared.data_pieces.DataPieces.{DataPieces}
+use Rattle.p8_declarations.specs.declared.lines.DataLineHead.{DataLineHead}
+use Rattle.p8_declarations.specs.declared.items.DataItemStage as code_stage
+use Rattle.p8_declarations.specs.declared.items.DataItemStage.TheVariants as stage_case
 use Rattle.p8_declarations.specs.DataParts.{Part, line_end, colon, comma, hash, left_bracket, right_bracket, size, org, res, fit, condition, effect}
 use Rattle.p8_declarations.specs.DataParts.{jump, other, name, behind_colon, text, tree, parts}
 use Rattle.p8_declarations.specs.Lines.{Stage, before, behind, open_bracket, counted, over, items, effects, blank}
@@ -35,15 +35,15 @@ part_of (code_case.Text t p) = text t p
 part_of (code_case.Tree e p) = tree (tree_of e) p
 
 -- what is left of a row
-abbrev pub rest : Row → List Part
+abbrev pub rest : DataPieces → List Part
 rest row = parts (pieces_of (into_iter_items row.pieces))
 
 -- the part that stands next, if there is one, and what is left after it
-abbrev pub from : Option code.Part → Row → List Part
+abbrev pub from : Option code.Part → DataPieces → List Part
 from None row = []
 from (Some x) row = part_of x ∷ rest row
 
-abbrev pub stage_of : code_stage.Stage → Stage
+abbrev pub stage_of : code_stage.DataItemStage → Stage
 stage_of (stage_case.Before s) = before s
 stage_of (stage_case.Behind s e) = behind s (tree_of e)
 stage_of (stage_case.OpenBracket s e) = open_bracket s (tree_of e)
@@ -61,5 +61,5 @@ Affects i x None = (row : List Part) → effects i (x ∷ row) ≡ None
 Affects i x (Some j) = (row : List Part) → effects i (x ∷ row) ≡ effects j row
 
 -- a line with nothing after its label
-abbrev pub begun : Head → Line
+abbrev pub begun : DataLineHead → Line
 begun head = blank head.place head.label

@@ -12,9 +12,9 @@ use Rattle.p8_declarations.specs.Parts.{Part, line_end, comma, equals, hash, col
 use Rattle.p8_declarations.specs.Parts.{right_bracket, size, name, text, tree, other, parts, is_line_end, with_first}
 use Rattle.p8_declarations.specs.declared.part.Part as code
 use Rattle.p8_declarations.specs.declared.part.Part.TheVariants as code_case
-use Rattle.p8_declarations.specs.declared.row.Row.{Row}
-use Rattle.p8_declarations.specs.declared.row.Behind.{Behind}
-use Rattle.p8_declarations.specs.declared.row.Behind.TheVariants as behind_case
+use Rattle.p8_declarations.specs.declared.declaration_pieces.DeclarationPieces.{DeclarationPieces}
+use Rattle.p8_declarations.specs.declared.declaration_pieces.Behind.{Behind}
+use Rattle.p8_declarations.specs.declared.declaration_pieces.Behind.TheVariants as behind_case
 
 abbrev pub part_of : code.Part → Part
 part_of code_case.LineEnd = line_end
@@ -34,7 +34,7 @@ part_of (code_case.Tree e) = tree (tree_of e)
 part_of code_case.Other = other
 
 -- the parts that are still to come
-abbrev pub parts_in : Row → List Part
+abbrev pub parts_in : DeclarationPieces → List Part
 parts_in row = parts (pieces_of (into_iter_items row.pieces))
 
 abbrev pub is_end : Behind → Bool

@@ -6,9 +6,9 @@ ghost use Rattle.p8_declarations.specs.Parts.{hash, equals, left_bracket, ended,
 ghost use Rattle.p8_declarations.specs.Constants.{constant, constants, constants_named, constants_behind, constants_of_row};
 ghost use Rattle.p8_declarations.specs.Views.{parts_in, with_constant};
 
+use crate::declaration_pieces::{Behind, DeclarationPieces};
 use crate::part::{Part, is_line_end};
-use crate::row::{Behind, Row};
-use p8_lexer::{Piece, without};
+use p8_lexer::{Piece, discarding};
 use p8_tree::{ConItem, Expr, List, Place, Text};
 use p8_words::NoMemory;
 use std::alloc::Global;
@@ -23,11 +23,11 @@ pub fn constants(alloc: Global, pieces: Vec<Piece>) -> Result<Option<List<ConIte
     if is_line_end(&pieces) {
         return Ok(Some(List::new(alloc)));
     }
-    read(alloc, Row::new(pieces))
+    read(alloc, DeclarationPieces::new(pieces))
 }
 
 // One item and those after it.
-fn read(alloc: Global, row: Row) -> Result<Option<List<ConItem>>, NoMemory>
+fn read(alloc: Global, row: DeclarationPieces) -> Result<Option<List<ConItem>>, NoMemory>
     ensures { IfOk result (λ items. option_map (λ xs. map constant_of xs) items ≡ constants (parts_in row)) }
 {
     let mut row = row;
@@ -58,7 +58,7 @@ fn named(name: Text, place: Place, value: Option<Expr>, step: Option<Expr>) -> C
     }
 }
 
-impl Row {
+impl DeclarationPieces {
     // Takes an item and what stands after it.
     fn constant(&mut self) -> Option<(ConItem, Behind)>
         ensures items { constants (parts_in self.old) ≡ with_constant result (constants (parts_in self.new)) }
@@ -67,7 +67,7 @@ impl Row {
         match self.next()? {
             Part::Hash(place) => self.setting(place),
             Part::Name(name, place) => self.constant_named(name, place),
-            other => without(other, None),
+            other => discarding(other, None),
         }
     }
 
@@ -97,7 +97,7 @@ impl Row {
             Part::LeftBracket => self.stepped(name, place),
             Part::Comma => Some((named(name, place, None, None), Behind::Comma)),
             Part::LineEnd => self.last(named(name, place, None, None)),
-            other => without(other, None),
+            other => discarding(other, None),
         }
     }
 
@@ -128,7 +128,7 @@ impl Row {
     {
         match self.behind() {
             Some(behind) => Some((item, behind)),
-            None => without(item, None),
+            None => discarding(item, None),
         }
     }
 
@@ -138,7 +138,7 @@ impl Row {
     {
         match self.end() {
             Some(behind) => Some((item, behind)),
-            None => without(item, None),
+            None => discarding(item, None),
         }
     }
 }

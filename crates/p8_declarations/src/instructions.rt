@@ -5,8 +5,8 @@ ghost use Rattle.p8_declarations.specs.Lines.{local, label, bare, direct, immedi
 ghost use Rattle.p8_declarations.specs.DataViews.{part_of, rest, from, Affects};
 
 use crate::data_part::Part;
-use crate::data_row::Row;
-use p8_lexer::{Word, without};
+use crate::data_pieces::DataPieces;
+use p8_lexer::{Word, discarding};
 use p8_tree::{Expr, ExprKind, InstrLine, Place, Target, Text};
 use p8_words::NoMemory;
 use std::alloc::Global;
@@ -58,12 +58,12 @@ fn with_effect(mut instr: InstrLine, part: Part) -> Option<InstrLine>
             Some(instr)
         }
         Part::Comma => Some(instr),
-        other => without(other, without(instr, None)),
+        other => discarding(other, discarding(instr, None)),
     }
 }
 
 // The instruction with the effects from this part on.
-fn with_effects(mut instr: InstrLine, first: Option<Part>, mut row: Row) -> Option<InstrLine>
+fn with_effects(mut instr: InstrLine, first: Option<Part>, mut row: DataPieces) -> Option<InstrLine>
     ensures { option_map instruction_of result ≡ effects (instruction_of instr) (from first row) }
 {
     let mut next = first;
@@ -79,7 +79,7 @@ fn with_immediate(
     mut instr: InstrLine,
     value: Expr,
     place: Place,
-    mut row: Row,
+    mut row: DataPieces,
 ) -> Option<InstrLine>
     ensures { option_map instruction_of result ≡ effects (immediate (instruction_of instr) (tree_of value) place) (rest row) }
 {
@@ -96,13 +96,13 @@ fn with_local_name(
     instr: InstrLine,
     name: &Text,
     place: Place,
-    row: Row,
+    row: DataPieces,
 ) -> Result<Option<InstrLine>, NoMemory>
     ensures { IfOk result (λ r. option_map instruction_of r ≡ effects (immediate (instruction_of instr) (label (local name.now) place) place) (rest row)) }
 {
     match local(alloc, name) {
         Ok(name) => Ok(with_immediate(instr, label(name, place), place, row)),
-        Err(failed) => without(instr, Err(failed)),
+        Err(failed) => discarding(instr, Err(failed)),
     }
 }
 
@@ -111,7 +111,7 @@ fn with_local_label(
     alloc: Global,
     instr: InstrLine,
     place: Place,
-    mut row: Row,
+    mut row: DataPieces,
 ) -> Result<Option<InstrLine>, NoMemory>
     ensures { IfOk result (λ r. option_map instruction_of r ≡ behind_hash (instruction_of instr) (part_of (Part.Colon place) ∷ rest row)) }
 {
@@ -121,12 +121,16 @@ fn with_local_label(
     };
     match part {
         Part::Label(name, _) => with_local_name(alloc, instr, &name, place, row),
-        other => without(other, without(instr, Ok(None))),
+        other => discarding(other, discarding(instr, Ok(None))),
     }
 }
 
 // The instruction with what stands after `#`.
-fn behind_hash(alloc: Global, instr: InstrLine, mut row: Row) -> Result<Option<InstrLine>, NoMemory>
+fn behind_hash(
+    alloc: Global,
+    instr: InstrLine,
+    mut row: DataPieces,
+) -> Result<Option<InstrLine>, NoMemory>
     ensures { IfOk result (λ r. option_map instruction_of r ≡ behind_hash (instruction_of instr) (rest row)) }
 {
     let Some(part) = row.next() else {
@@ -137,12 +141,17 @@ fn behind_hash(alloc: Global, instr: InstrLine, mut row: Row) -> Result<Option<I
         Part::Tree(value, place) => Ok(with_immediate(instr, value, place, row)),
         Part::Name(name, place) => Ok(with_immediate(instr, label(name, place), place, row)),
         Part::Colon(place) => with_local_label(alloc, instr, place, row),
-        other => without(other, without(instr, Ok(None))),
+        other => discarding(other, discarding(instr, Ok(None))),
     }
 }
 
 // The instruction with a source that has no `#`, and the effects after it.
-fn with_direct(mut instr: InstrLine, value: Expr, place: Place, mut row: Row) -> Option<InstrLine>
+fn with_direct(
+    mut instr: InstrLine,
+    value: Expr,
+    place: Place,
+    mut row: DataPieces,
+) -> Option<InstrLine>
     ensures { option_map instruction_of result ≡ effects (direct (instruction_of instr) (tree_of value) place) (rest row) }
 {
     drop(instr.source.replace(value));
@@ -156,7 +165,7 @@ fn source_from(
     alloc: Global,
     instr: InstrLine,
     first: Part,
-    row: Row,
+    row: DataPieces,
 ) -> Result<Option<InstrLine>, NoMemory>
     ensures { IfOk result (λ r. option_map instruction_of r ≡ source (instruction_of instr) (part_of first ∷ rest row)) }
 {
@@ -168,7 +177,11 @@ fn source_from(
 }
 
 // The instruction with a source, if there is one, and with effects.
-pub fn source(alloc: Global, instr: InstrLine, mut row: Row) -> Result<Option<InstrLine>, NoMemory>
+pub fn source(
+    alloc: Global,
+    instr: InstrLine,
+    mut row: DataPieces,
+) -> Result<Option<InstrLine>, NoMemory>
     ensures { IfOk result (λ r. option_map instruction_of r ≡ source (instruction_of instr) (rest row)) }
 {
     match row.next() {
@@ -181,7 +194,7 @@ pub fn source(alloc: Global, instr: InstrLine, mut row: Row) -> Result<Option<In
 fn behind_destination(
     alloc: Global,
     instr: InstrLine,
-    mut row: Row,
+    mut row: DataPieces,
 ) -> Result<Option<InstrLine>, NoMemory>
     ensures { IfOk result (λ r. option_map instruction_of r ≡ behind_destination (instruction_of instr) (rest row)) }
 {
@@ -199,7 +212,7 @@ fn operands_from(
     alloc: Global,
     mut instr: InstrLine,
     first: Part,
-    row: Row,
+    row: DataPieces,
 ) -> Result<Option<InstrLine>, NoMemory>
     ensures { IfOk result (λ r. option_map instruction_of r ≡ operands (instruction_of instr) (part_of first ∷ rest row)) }
 {
@@ -217,7 +230,7 @@ fn operands_from(
 pub fn operands(
     alloc: Global,
     instr: InstrLine,
-    mut row: Row,
+    mut row: DataPieces,
 ) -> Result<Option<InstrLine>, NoMemory>
     ensures { IfOk result (λ r. option_map instruction_of r ≡ operands (instruction_of instr) (rest row)) }
 {

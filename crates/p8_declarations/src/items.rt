@@ -7,15 +7,15 @@ ghost use Rattle.p8_declarations.specs.Lines.{before, behind, open_bracket, coun
 ghost use Rattle.p8_declarations.specs.DataViews.{part_of, rest, stage_of, Steps};
 
 use crate::data_part::Part;
-use crate::data_row::Row;
-use p8_lexer::without;
+use crate::data_pieces::DataPieces;
+use p8_lexer::discarding;
 use p8_tree::{DatItem, Expr, ExprKind, List, Place, Text};
 use p8_words::NoMemory;
 use std::alloc::Global;
 
 // How far an item of data is read.
 #[derive(Drop)]
-pub enum Stage {
+pub enum DataItemStage {
     // Its size, where it has one of its own.
     Before(Option<u8>),
     // Its value.
@@ -39,17 +39,17 @@ fn string(text: Text, place: Place) -> Expr
 }
 
 // Where an item goes on from its size.
-fn from_size(size: Option<u8>, part: Part) -> Option<Stage>
+fn from_size(size: Option<u8>, part: Part) -> Option<DataItemStage>
     ensures { (read : List Datum) → Steps read (before size) (part_of part) read (option_map stage_of result) }
 {
     match part {
         Part::Size(own, _) => match size {
-            None => Some(Stage::Before(Some(own))),
+            None => Some(DataItemStage::Before(Some(own))),
             Some(_) => None,
         },
-        Part::Tree(value, _) => Some(Stage::Behind(size, value)),
-        Part::Text(text, place) => Some(Stage::Over(size, string(text, place), None)),
-        other => without(other, None),
+        Part::Tree(value, _) => Some(DataItemStage::Behind(size, value)),
+        Part::Text(text, place) => Some(DataItemStage::Over(size, string(text, place), None)),
+        other => discarding(other, None),
     }
 }
 
@@ -72,32 +72,32 @@ fn from_value(
     size: Option<u8>,
     value: Expr,
     part: Part,
-) -> Result<Option<Stage>, NoMemory>
+) -> Result<Option<DataItemStage>, NoMemory>
     ensures { IfOk result (λ s. Steps (map datum_of read.old) (behind size (tree_of value)) (part_of part) (map datum_of read.new) (option_map stage_of s)) }
 {
     match part {
-        Part::LeftBracket => Ok(Some(Stage::OpenBracket(size, value))),
+        Part::LeftBracket => Ok(Some(DataItemStage::OpenBracket(size, value))),
         other => from_end(read, size, value, None, other),
     }
 }
 
 // Where an item goes on from the bracket before its count.
-fn from_open_bracket(size: Option<u8>, value: Expr, part: Part) -> Option<Stage>
+fn from_open_bracket(size: Option<u8>, value: Expr, part: Part) -> Option<DataItemStage>
     ensures { (read : List Datum) → Steps read (open_bracket size (tree_of value)) (part_of part) read (option_map stage_of result) }
 {
     match part {
-        Part::Tree(count, _) => Some(Stage::Counted(size, value, count)),
-        other => without(other, without(value, None)),
+        Part::Tree(count, _) => Some(DataItemStage::Counted(size, value, count)),
+        other => discarding(other, discarding(value, None)),
     }
 }
 
 // Where an item goes on from its count.
-fn from_count(size: Option<u8>, value: Expr, count: Expr, part: Part) -> Option<Stage>
+fn from_count(size: Option<u8>, value: Expr, count: Expr, part: Part) -> Option<DataItemStage>
     ensures { (read : List Datum) → Steps read (counted size (tree_of value) (tree_of count)) (part_of part) read (option_map stage_of result) }
 {
     match part {
-        Part::RightBracket => Some(Stage::Over(size, value, Some(count))),
-        other => without(other, without(value, without(count, None))),
+        Part::RightBracket => Some(DataItemStage::Over(size, value, Some(count))),
+        other => discarding(other, discarding(value, discarding(count, None))),
     }
 }
 
@@ -108,30 +108,30 @@ fn from_end(
     value: Expr,
     count: Option<Expr>,
     part: Part,
-) -> Result<Option<Stage>, NoMemory>
+) -> Result<Option<DataItemStage>, NoMemory>
     ensures { IfOk result (λ s. Steps (map datum_of read.old) (over size (tree_of value) (option_map tree_of count)) (part_of part)
         (map datum_of read.new) (option_map stage_of s)) }
 {
     match part {
         Part::Comma => {
             put(read, size, value, count)?;
-            Ok(Some(Stage::Before(None)))
+            Ok(Some(DataItemStage::Before(None)))
         }
-        other => without(other, without(value, without(count, Ok(None)))),
+        other => discarding(other, discarding(value, discarding(count, Ok(None)))),
     }
 }
 
-impl Stage {
+impl DataItemStage {
     // Goes on by a part; a comma puts the item that it ends after those that are read.
-    fn step(self, read: &mut List<DatItem>, part: Part) -> Result<Option<Stage>, NoMemory>
+    fn step(self, read: &mut List<DatItem>, part: Part) -> Result<Option<DataItemStage>, NoMemory>
         ensures { IfOk result (λ s. Steps (map datum_of read.old) (stage_of self) (part_of part) (map datum_of read.new) (option_map stage_of s)) }
     {
         match self {
-            Stage::Before(size) => Ok(from_size(size, part)),
-            Stage::Behind(size, value) => from_value(read, size, value, part),
-            Stage::OpenBracket(size, value) => Ok(from_open_bracket(size, value, part)),
-            Stage::Counted(size, value, count) => Ok(from_count(size, value, count, part)),
-            Stage::Over(size, value, count) => from_end(read, size, value, count, part),
+            DataItemStage::Before(size) => Ok(from_size(size, part)),
+            DataItemStage::Behind(size, value) => from_value(read, size, value, part),
+            DataItemStage::OpenBracket(size, value) => Ok(from_open_bracket(size, value, part)),
+            DataItemStage::Counted(size, value, count) => Ok(from_count(size, value, count, part)),
+            DataItemStage::Over(size, value, count) => from_end(read, size, value, count, part),
         }
     }
 
@@ -140,25 +140,29 @@ impl Stage {
         ensures { IfOk result (λ r. option_map (map datum_of) r ≡ items (map datum_of read) (stage_of self) []) }
     {
         match self {
-            Stage::Behind(size, value) => {
+            DataItemStage::Behind(size, value) => {
                 put(&mut read, size, value, None)?;
                 Ok(Some(read))
             }
-            Stage::Over(size, value, count) => {
+            DataItemStage::Over(size, value, count) => {
                 put(&mut read, size, value, count)?;
                 Ok(Some(read))
             }
-            other => without(other, Ok(None)),
+            other => discarding(other, Ok(None)),
         }
     }
 }
 
 // The items from this part on.
-fn items_from(alloc: Global, first: Part, mut row: Row) -> Result<Option<List<DatItem>>, NoMemory>
+fn items_from(
+    alloc: Global,
+    first: Part,
+    mut row: DataPieces,
+) -> Result<Option<List<DatItem>>, NoMemory>
     ensures { IfOk result (λ r. option_map (map datum_of) r ≡ items [] (before None) (part_of first ∷ rest row)) }
 {
     let mut read = List::new(alloc);
-    let mut stage = Stage::Before(None);
+    let mut stage = DataItemStage::Before(None);
     let mut next = Some(first);
     'parts: while let Some(part) = next {
         let Some(further) = stage.step(&mut read, part)? else {
@@ -171,7 +175,7 @@ fn items_from(alloc: Global, first: Part, mut row: Row) -> Result<Option<List<Da
 }
 
 // The items of a line of data, which may have none.
-pub fn all_items(alloc: Global, mut row: Row) -> Result<Option<List<DatItem>>, NoMemory>
+pub fn all_items(alloc: Global, mut row: DataPieces) -> Result<Option<List<DatItem>>, NoMemory>
     ensures { IfOk result (λ r. option_map (map datum_of) r ≡ all_items (rest row)) }
 {
     match row.next() {

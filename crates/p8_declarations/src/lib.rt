@@ -5,7 +5,8 @@
 mod con_line;
 mod data_laws;
 mod data_part;
-mod data_row;
+mod data_pieces;
+mod declaration_pieces;
 mod instructions;
 mod items;
 mod laws;
@@ -13,7 +14,6 @@ mod lines;
 mod method_head;
 mod obj_line;
 mod part;
-mod row;
 mod var_line;
 
 pub use con_line::constants;

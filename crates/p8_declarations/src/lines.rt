@@ -7,10 +7,10 @@ ghost use Rattle.p8_declarations.specs.Rows.{outcome_of};
 ghost use Rattle.p8_declarations.specs.DataViews.{part_of, rest, begun};
 
 use crate::data_part::{Part, place_of};
-use crate::data_row::Row;
+use crate::data_pieces::DataPieces;
 use crate::instructions::{bare, local, operands, source};
 use crate::items::all_items;
-use p8_lexer::{Piece, Word, without};
+use p8_lexer::{Piece, Word, discarding};
 use p8_tree::{DatBody, DatLine, Expr, Place, Text};
 use p8_words::NoMemory;
 use std::alloc::Global;
@@ -27,7 +27,7 @@ pub enum DatRow {
 }
 
 // The value of ORG, RES or FIT, which may have none.
-fn value(mut row: Row) -> Option<Option<Expr>>
+fn value(mut row: DataPieces) -> Option<Option<Expr>>
     ensures { option_map (option_map tree_of) result ≡ value (rest row) }
 {
     let Some(part) = row.next() else {
@@ -36,24 +36,24 @@ fn value(mut row: Row) -> Option<Option<Expr>>
     match part {
         Part::Tree(tree, _) => match row.next() {
             None => Some(Some(tree)),
-            Some(other) => without(other, without(tree, None)),
+            Some(other) => discarding(other, discarding(tree, None)),
         },
-        other => without(other, None),
+        other => discarding(other, None),
     }
 }
 
 // Where a line begins, and its label.
 #[derive(Drop)]
-pub struct Head {
+pub struct DataLineHead {
     place: Place,
     label: Option<Text>,
 }
 
-impl Head {
-    fn new(place: Place, label: Option<Text>) -> Head
+impl DataLineHead {
+    fn new(place: Place, label: Option<Text>) -> DataLineHead
         ensures { begun result ≡ blank place label }
     {
-        Head { place, label }
+        DataLineHead { place, label }
     }
 
     // The line with nothing after its label.
@@ -80,10 +80,10 @@ impl Head {
 // The line as one of data.
 fn with_data(
     alloc: Global,
-    head: Head,
+    head: DataLineHead,
     size: u8,
     place: Place,
-    row: Row,
+    row: DataPieces,
 ) -> Result<Option<DatLine>, NoMemory>
     ensures { IfOk result (λ r. option_map line_of r ≡ body (begun head) (part_of (Part.Size size place) ∷ rest row)) }
 {
@@ -96,10 +96,10 @@ fn with_data(
 // The line as one of JMP.
 fn with_jump(
     alloc: Global,
-    head: Head,
+    head: DataLineHead,
     cond: u8,
     place: Place,
-    row: Row,
+    row: DataPieces,
 ) -> Result<Option<DatLine>, NoMemory>
     ensures { IfOk result (λ r. option_map line_of r ≡ instruction cond (begun head) (part_of (Part.Jump place) ∷ rest row)) }
 {
@@ -113,11 +113,11 @@ fn with_jump(
 // The line as one of another instruction.
 fn with_word(
     alloc: Global,
-    head: Head,
+    head: DataLineHead,
     cond: u8,
     word: Word,
     place: Place,
-    row: Row,
+    row: DataPieces,
 ) -> Result<Option<DatLine>, NoMemory>
     ensures { IfOk result (λ r. option_map line_of r ≡ instruction cond (begun head) (part_of (Part.Other word place) ∷ rest row)) }
 {
@@ -131,37 +131,42 @@ fn with_word(
 // The line as an instruction under a condition, from the instruction's word on.
 fn with_instruction(
     alloc: Global,
-    head: Head,
+    head: DataLineHead,
     cond: u8,
     first: Part,
-    row: Row,
+    row: DataPieces,
 ) -> Result<Option<DatLine>, NoMemory>
     ensures { IfOk result (λ r. option_map line_of r ≡ instruction cond (begun head) (part_of first ∷ rest row)) }
 {
     match first {
         Part::Jump(place) => with_jump(alloc, head, cond, place, row),
         Part::Other(word, place) => with_word(alloc, head, cond, word, place, row),
-        other => without(other, without(head, Ok(None))),
+        other => discarding(other, discarding(head, Ok(None))),
     }
 }
 
 // The line as an instruction, from after its condition on.
 fn with_condition(
     alloc: Global,
-    head: Head,
+    head: DataLineHead,
     cond: u8,
-    mut row: Row,
+    mut row: DataPieces,
 ) -> Result<Option<DatLine>, NoMemory>
     ensures { IfOk result (λ r. option_map line_of r ≡ instruction cond (begun head) (rest row)) }
 {
     match row.next() {
-        None => without(head, Ok(None)),
+        None => discarding(head, Ok(None)),
         Some(first) => with_instruction(alloc, head, cond, first, row),
     }
 }
 
 // The line with what stands after its label, from this part on.
-fn body_from(alloc: Global, head: Head, first: Part, row: Row) -> Result<Option<DatLine>, NoMemory>
+fn body_from(
+    alloc: Global,
+    head: DataLineHead,
+    first: Part,
+    row: DataPieces,
+) -> Result<Option<DatLine>, NoMemory>
     ensures { IfOk result (λ r. option_map line_of r ≡ body (begun head) (part_of first ∷ rest row)) }
 {
     match first {
@@ -175,7 +180,7 @@ fn body_from(alloc: Global, head: Head, first: Part, row: Row) -> Result<Option<
 }
 
 // The line with what stands after its label.
-fn body(alloc: Global, head: Head, mut row: Row) -> Result<Option<DatLine>, NoMemory>
+fn body(alloc: Global, head: DataLineHead, mut row: DataPieces) -> Result<Option<DatLine>, NoMemory>
     ensures { IfOk result (λ r. option_map line_of r ≡ body (begun head) (rest row)) }
 {
     match row.next() {
@@ -189,7 +194,7 @@ fn local_line(
     alloc: Global,
     place: Place,
     colon: Place,
-    mut row: Row,
+    mut row: DataPieces,
 ) -> Result<Option<DatLine>, NoMemory>
     ensures { IfOk result (λ r. option_map line_of r ≡ line place (part_of (Part.Colon colon) ∷ rest row)) }
 {
@@ -199,9 +204,9 @@ fn local_line(
     match part {
         Part::Label(name, _) => {
             let label = local(alloc, &name)?;
-            body(alloc, Head::new(place, Some(label)), row)
+            body(alloc, DataLineHead::new(place, Some(label)), row)
         }
-        other => without(other, Ok(None)),
+        other => discarding(other, Ok(None)),
     }
 }
 
@@ -210,14 +215,14 @@ fn line_from(
     alloc: Global,
     place: Place,
     first: Part,
-    row: Row,
+    row: DataPieces,
 ) -> Result<Option<DatLine>, NoMemory>
     ensures { IfOk result (λ r. option_map line_of r ≡ line place (part_of first ∷ rest row)) }
 {
     match first {
-        Part::Name(name, _) => body(alloc, Head::new(place, Some(name)), row),
+        Part::Name(name, _) => body(alloc, DataLineHead::new(place, Some(name)), row),
         Part::Colon(colon) => local_line(alloc, place, colon, row),
-        other => body_from(alloc, Head::new(place, None), other, row),
+        other => body_from(alloc, DataLineHead::new(place, None), other, row),
     }
 }
 
@@ -229,7 +234,7 @@ pub fn dat_line(alloc: Global, pieces: Vec<Piece>) -> Result<DatRow, NoMemory>
         return Ok(DatRow::Unknown);
     };
     let place = place_of(first);
-    let mut row = Row::new(pieces);
+    let mut row = DataPieces::new(pieces);
     let Some(part) = row.next() else {
         return Ok(DatRow::Empty);
     };

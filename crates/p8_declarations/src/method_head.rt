@@ -8,10 +8,10 @@ ghost use Rattle.p8_declarations.specs.Methods.{bare, with_parameter, with_resul
 ghost use Rattle.p8_declarations.specs.Methods.{parameters, behind_parameter, behind_name, method_of_row};
 ghost use Rattle.p8_declarations.specs.Views.{part_of, parts_in};
 
+use crate::declaration_pieces::DeclarationPieces;
 use crate::part::Part;
-use crate::row::Row;
 use crate::var_line::variables_of_size;
-use p8_lexer::{Piece, without};
+use p8_lexer::{Piece, discarding};
 use p8_tree::{List, Method, Place, Text};
 use p8_words::NoMemory;
 use std::alloc::{AllocError, Global};
@@ -26,7 +26,7 @@ use std::alloc::{AllocError, Global};
 pub fn method(alloc: Global, public: bool, pieces: Vec<Piece>) -> Result<Option<Method>, NoMemory>
     ensures { IfOk result (λ m. option_map method_of m ≡ method_of_row public (pieces_of pieces.items)) }
 {
-    let mut row = Row::new(pieces);
+    let mut row = DeclarationPieces::new(pieces);
     match row.name() {
         Some((name, place)) => behind_name(alloc, row, bare(alloc, public, name, place)),
         None => Ok(None),
@@ -51,19 +51,27 @@ fn bare(alloc: Global, public: bool, name: Text, place: Place) -> Method
 }
 
 // Reads what stands after the name.
-fn behind_name(alloc: Global, row: Row, method: Method) -> Result<Option<Method>, NoMemory>
+fn behind_name(
+    alloc: Global,
+    row: DeclarationPieces,
+    method: Method,
+) -> Result<Option<Method>, NoMemory>
     ensures { IfOk result (λ m. option_map method_of m ≡ behind_name (method_of method) (parts_in row)) }
 {
     let mut row = row;
     match row.next() {
         Some(Part::LeftParenthesis) => with_parameters(alloc, row, method),
         Some(part) => behind_parameters(alloc, part, row, method),
-        None => without(method, Ok(None)),
+        None => discarding(method, Ok(None)),
     }
 }
 
 // Reads parameters, after `(`.
-fn with_parameters(alloc: Global, row: Row, method: Method) -> Result<Option<Method>, NoMemory>
+fn with_parameters(
+    alloc: Global,
+    row: DeclarationPieces,
+    method: Method,
+) -> Result<Option<Method>, NoMemory>
     ensures { IfOk result (λ m. option_map method_of m ≡ parameters (method_of method) (parts_in row)) }
 {
     let mut row = row;
@@ -91,7 +99,7 @@ fn with_parameter(method: Method, name: Text, place: Place) -> Result<Method, Al
     let mut method = method;
     match add_parameter(&mut method, name, place) {
         Ok(()) => Ok(method),
-        Err(failed) => without(method, Err(failed)),
+        Err(failed) => discarding(method, Err(failed)),
     }
 }
 
@@ -105,13 +113,17 @@ fn add_parameter(method: &mut Method, name: Text, place: Place) -> Result<(), Al
 }
 
 // Reads what stands after `)`.
-fn behind_parenthesis(alloc: Global, row: Row, method: Method) -> Result<Option<Method>, NoMemory>
+fn behind_parenthesis(
+    alloc: Global,
+    row: DeclarationPieces,
+    method: Method,
+) -> Result<Option<Method>, NoMemory>
     ensures { IfOk result (λ m. option_map method_of m ≡ behind_parameters (method_of method) (parts_in row)) }
 {
     let mut row = row;
     match row.next() {
         Some(part) => behind_parameters(alloc, part, row, method),
-        None => without(method, Ok(None)),
+        None => discarding(method, Ok(None)),
     }
 }
 
@@ -119,7 +131,7 @@ fn behind_parenthesis(alloc: Global, row: Row, method: Method) -> Result<Option<
 fn behind_parameters(
     alloc: Global,
     part: Part,
-    row: Row,
+    row: DeclarationPieces,
     method: Method,
 ) -> Result<Option<Method>, NoMemory>
     ensures { IfOk result (λ m. option_map method_of m ≡ behind_parameters (method_of method) (part_of part ∷ parts_in row)) }
@@ -132,13 +144,17 @@ fn behind_parameters(
 
 // Reads the name of the result, after `:`.
 #[tactic(auto, using(crate::proofs::Rows::no_result))]
-fn with_result(alloc: Global, row: Row, method: Method) -> Result<Option<Method>, NoMemory>
+fn with_result(
+    alloc: Global,
+    row: DeclarationPieces,
+    method: Method,
+) -> Result<Option<Method>, NoMemory>
     ensures { IfOk result (λ m. option_map method_of m ≡ result_named (method_of method) (parts_in row)) }
 {
     let mut row = row;
     match row.name() {
         Some((name, place)) => behind_result_name(alloc, row, result_named(method, name, place)),
-        None => without(method, Ok(None)),
+        None => discarding(method, Ok(None)),
     }
 }
 
@@ -153,13 +169,17 @@ fn result_named(method: Method, name: Text, place: Place) -> Method
 }
 
 // Reads what stands after the name of the result.
-fn behind_result_name(alloc: Global, row: Row, method: Method) -> Result<Option<Method>, NoMemory>
+fn behind_result_name(
+    alloc: Global,
+    row: DeclarationPieces,
+    method: Method,
+) -> Result<Option<Method>, NoMemory>
     ensures { IfOk result (λ m. option_map method_of m ≡ behind_result (method_of method) (parts_in row)) }
 {
     let mut row = row;
     match row.next() {
         Some(part) => behind_result(alloc, part, row, method),
-        None => without(method, Ok(None)),
+        None => discarding(method, Ok(None)),
     }
 }
 
@@ -167,7 +187,7 @@ fn behind_result_name(alloc: Global, row: Row, method: Method) -> Result<Option<
 fn behind_result(
     alloc: Global,
     part: Part,
-    row: Row,
+    row: DeclarationPieces,
     method: Method,
 ) -> Result<Option<Method>, NoMemory>
     ensures { IfOk result (λ m. option_map method_of m ≡ behind_result (method_of method) (part_of part ∷ parts_in row)) }
@@ -175,12 +195,16 @@ fn behind_result(
     match part {
         Part::Bar => with_locals(alloc, row, method),
         Part::LineEnd => Ok(ended(&row, method)),
-        other => without(other, without(method, Ok(None))),
+        other => discarding(other, discarding(method, Ok(None))),
     }
 }
 
 // Reads locals, after `|`.
-fn with_locals(alloc: Global, row: Row, method: Method) -> Result<Option<Method>, NoMemory>
+fn with_locals(
+    alloc: Global,
+    row: DeclarationPieces,
+    method: Method,
+) -> Result<Option<Method>, NoMemory>
     ensures { IfOk result (λ m. option_map method_of m ≡ behind_result (method_of method) (bar ∷ parts_in row)) }
 {
     let mut method = method;
@@ -189,13 +213,13 @@ fn with_locals(alloc: Global, row: Row, method: Method) -> Result<Option<Method>
             method.locals = locals;
             Ok(Some(method))
         }
-        Ok(None) => without(method, Ok(None)),
-        Err(failed) => without(method, Err(failed)),
+        Ok(None) => discarding(method, Ok(None)),
+        Err(failed) => discarding(method, Err(failed)),
     }
 }
 
 // The method, where nothing stands after the end of the line.
-fn ended(row: &Row, method: Method) -> Option<Method>
+fn ended(row: &DeclarationPieces, method: Method) -> Option<Method>
     ensures { option_map method_of result ≡ behind_result (method_of method) (line_end ∷ parts_in row.now) }
 {
     if row.is_over() {
@@ -206,7 +230,7 @@ fn ended(row: &Row, method: Method) -> Option<Method>
     }
 }
 
-impl Row {
+impl DeclarationPieces {
     // Takes a parameter with the comma or the parenthesis after it, and says whether it is the parenthesis.
     #[tactic(auto, using(crate::proofs::Rows::no_parameter))]
     fn parameter(&mut self) -> Option<(Text, Place, bool)>
@@ -217,7 +241,7 @@ impl Row {
         match self.next()? {
             Part::Comma => Some((name, place, false)),
             Part::RightParenthesis => Some((name, place, true)),
-            other => without(other, None),
+            other => discarding(other, None),
         }
     }
 }

@@ -7,9 +7,9 @@ ghost use Rattle.p8_declarations.specs.Parts.{left_bracket};
 ghost use Rattle.p8_declarations.specs.Objects.{file_of, in_file, object_named, object, alone, objects_of_row};
 ghost use Rattle.p8_declarations.specs.Views.{parts_in, child_in};
 
+use crate::declaration_pieces::DeclarationPieces;
 use crate::part::{Part, is_line_end};
-use crate::row::Row;
-use p8_lexer::{Piece, without};
+use p8_lexer::{Piece, discarding};
 use p8_tree::{Expr, List, ObjItem, Place, Text};
 use p8_words::NoMemory;
 use std::alloc::{AllocError, Global};
@@ -25,7 +25,7 @@ pub fn object(alloc: Global, pieces: Vec<Piece>) -> Result<Option<List<ObjItem>>
     if is_line_end(&pieces) {
         return Ok(Some(List::new(alloc)));
     }
-    let mut row = Row::new(pieces);
+    let mut row = DeclarationPieces::new(pieces);
     match row.object() {
         Some(item) => Ok(Some(alone(alloc, with_file_name(alloc, item)?)?)),
         None => Ok(None),
@@ -51,7 +51,7 @@ fn with_file_name(alloc: Global, item: ObjItem) -> Result<ObjItem, AllocError>
             item.file = file;
             Ok(item)
         }
-        Err(failed) => without(item, Err(failed)),
+        Err(failed) => discarding(item, Err(failed)),
     }
 }
 
@@ -83,14 +83,14 @@ fn extended(alloc: Global, name: &Text) -> Result<Text, AllocError>
     Ok(Text::from_vec(bytes))
 }
 
-impl Row {
+impl DeclarationPieces {
     // Takes an item, with the string for its file's name.
     fn object(&mut self) -> Option<ObjItem>
         ensures { option_map child_in result ≡ object (parts_in self.old) }
     {
         match self.next()? {
             Part::Name(name, place) => self.object_named(name, place),
-            other => without(other, None),
+            other => discarding(other, None),
         }
     }
 
@@ -101,7 +101,7 @@ impl Row {
         match self.next()? {
             Part::Colon => self.in_file(name, place, None),
             Part::LeftBracket => self.object_counted(name, place),
-            other => without(other, None),
+            other => discarding(other, None),
         }
     }
 
@@ -132,7 +132,7 @@ impl Row {
                 file,
                 file_place,
             }),
-            None => without(count, None),
+            None => discarding(count, None),
         }
     }
 }

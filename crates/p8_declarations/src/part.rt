@@ -4,7 +4,7 @@ ghost use Rattle.p8_lexer.specs.Pieces.{piece_of, pieces_of};
 ghost use Rattle.p8_declarations.specs.Parts.{line_end, colon, right_bracket, part_of_word, part_of_piece, parts, is_line_end};
 ghost use Rattle.p8_declarations.specs.Views.{part_of};
 
-use p8_lexer::{Piece, Word, without};
+use p8_lexer::{Piece, Word, discarding};
 use p8_tree::{Expr, Place, Text};
 
 /// A piece of a line, as declarations tell it apart.
@@ -39,7 +39,7 @@ impl Part {
         match piece {
             Piece::Word(word, place) => Part::of_word(word, place),
             Piece::Name(name, place) => Part::Name(name, place),
-            Piece::Label(name, _) => without(name, Part::Other),
+            Piece::Label(name, _) => discarding(name, Part::Other),
             Piece::Text(text, place) => Part::Text(text, place),
             Piece::Tree(tree, _) => Part::Tree(tree),
         }
@@ -74,7 +74,7 @@ impl Part {
     {
         match self {
             Part::LineEnd => true,
-            other => without(other, false),
+            other => discarding(other, false),
         }
     }
 
@@ -84,7 +84,7 @@ impl Part {
     {
         match self {
             Part::Colon => true,
-            other => without(other, false),
+            other => discarding(other, false),
         }
     }
 
@@ -94,7 +94,7 @@ impl Part {
     {
         match self {
             Part::RightBracket => true,
-            other => without(other, false),
+            other => discarding(other, false),
         }
     }
 }

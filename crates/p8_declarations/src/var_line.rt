@@ -7,9 +7,9 @@ ghost use Rattle.p8_declarations.specs.Parts.{left_bracket, ended, with_first};
 ghost use Rattle.p8_declarations.specs.Variables.{variable, variables, variables_named, variables_behind, sized_variables, variables_of_row};
 ghost use Rattle.p8_declarations.specs.Views.{parts_in, with_variable};
 
+use crate::declaration_pieces::{Behind, DeclarationPieces};
 use crate::part::{Part, is_line_end};
-use crate::row::{Behind, Row};
-use p8_lexer::{Piece, without};
+use p8_lexer::{Piece, discarding};
 use p8_tree::{Expr, List, Place, Text, VarItem};
 use p8_words::NoMemory;
 use std::alloc::Global;
@@ -26,7 +26,7 @@ pub fn variables(alloc: Global, pieces: Vec<Piece>) -> Result<Option<List<VarIte
     if is_line_end(&pieces) {
         return Ok(Some(List::new(alloc)));
     }
-    let mut row = Row::new(pieces);
+    let mut row = DeclarationPieces::new(pieces);
     match row.size() {
         Some(size) => variables_of_size(alloc, row, size),
         None => Ok(None),
@@ -36,7 +36,7 @@ pub fn variables(alloc: Global, pieces: Vec<Piece>) -> Result<Option<List<VarIte
 /// One variable of this size and those after it, up to the end of the line.
 pub fn variables_of_size(
     alloc: Global,
-    row: Row,
+    row: DeclarationPieces,
     size: u8,
 ) -> Result<Option<List<VarItem>>, NoMemory>
     ensures { IfOk result (λ items. option_map (λ xs. map declared_of xs) items ≡ variables size (parts_in row)) }
@@ -68,7 +68,7 @@ fn named(size: u8, name: Text, place: Place, count: Option<Expr>) -> VarItem
     }
 }
 
-impl Row {
+impl DeclarationPieces {
     // Takes a variable and what stands after it.
     fn variable(&mut self, size: u8) -> Option<(VarItem, Behind)>
         ensures items { variables size (parts_in self.old) ≡ with_variable result (variables size (parts_in self.new)) }
@@ -76,7 +76,7 @@ impl Row {
     {
         match self.next()? {
             Part::Name(name, place) => self.variable_named(size, name, place),
-            other => without(other, None),
+            other => discarding(other, None),
         }
     }
 
@@ -89,7 +89,7 @@ impl Row {
             Part::LeftBracket => self.variable_counted(size, name, place),
             Part::Comma => Some((named(size, name, place, None), Behind::Comma)),
             Part::LineEnd => self.last_variable(named(size, name, place, None)),
-            other => without(other, None),
+            other => discarding(other, None),
         }
     }
 
@@ -110,7 +110,7 @@ impl Row {
     {
         match self.behind() {
             Some(behind) => Some((item, behind)),
-            None => without(item, None),
+            None => discarding(item, None),
         }
     }
 
@@ -120,7 +120,7 @@ impl Row {
     {
         match self.end() {
             Some(behind) => Some((item, behind)),
-            None => without(item, None),
+            None => discarding(item, None),
         }
     }
 }

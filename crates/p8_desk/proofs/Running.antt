@@ -21,8 +21,8 @@ use Rattle.p8_access.specs.Hub.{Change, Starts, Runs, Stops, change_by, change_o
 use Rattle.p8_access.specs.Histories.{begins_life, begun_at, since_begin, first_access, IsNextIn}
 use Rattle.p8_access.proofs.Changes.{runs-begins, since_begin-new, since_begin-own, since_begin-other}
 use Rattle.p8_cog.specs.declared.cog_life.CogLife.{CogLife}
-use Rattle.p8_cog.specs.declared.life_kind.Kind.{Kind}
-use Rattle.p8_cog.specs.declared.life_kind.Kind.TheVariants.{Pasm as OfPasm, Spin as OfSpin}
+use Rattle.p8_cog.specs.declared.life_kind.LifeKind.{LifeKind}
+use Rattle.p8_cog.specs.declared.life_kind.LifeKind.TheVariants.{Pasm as OfPasm, Spin as OfSpin}
 use Rattle.p8_cog.specs.Kinds.{number_of}
 use Rattle.p8_cog.specs.Laws.{asked-first, asked-later}
 use Rattle.p8_cog.specs.Lives.{asks, begun_by, IsStartable}
@@ -132,15 +132,15 @@ pub record Ran (limit : ℕ) (old new : CogLife) (next : Next) : Type 0 where
   pub same_stride : stride_in new ≡ stride_in old
 
 -- numbers of a life by its kind
-paced : (kind : Kind) → 1 ≤ number_of kind 4 32
+paced : (kind : LifeKind) → 1 ≤ number_of kind 4 32
 paced OfPasm = omega arith
 paced OfSpin = omega arith
 
-strides-most : (kind : Kind) (d : ℕ) → d ≤ 1024 → number_of kind 8 544 * d ≤ 1024 * number_of kind 8 544
+strides-most : (kind : LifeKind) (d : ℕ) → d ≤ 1024 → number_of kind 8 544 * d ≤ 1024 * number_of kind 8 544
 strides-most OfPasm d le = omega arith
 strides-most OfSpin d le = omega arith
 
-goes : (kind : Kind) (place new reached now limit old : ℕ) (next : Next) → old ≤ reached + 1 → reached ≤ old + 8192 → place ≤ new → new ≤ place + 1024
+goes : (kind : LifeKind) (place new reached now limit old : ℕ) (next : Next) → old ≤ reached + 1 → reached ≤ old + 8192 → place ≤ new → new ≤ place + 1024
     → Spends place new reached now (number_of kind 4 32) limit 1024 next → now ≤ reached + number_of kind 8 544 * (new - place)
     → IsWithin (reached + number_of kind 8 544 * 1024 + 16) limit next
     → GoesOn (number_of kind 4 32) (8192 + 1024 * number_of kind 8 544 + 16) limit old next
@@ -153,7 +153,7 @@ goes kind place new reached now limit old (More bound) low high forward budget s
     let far : reached + number_of kind 4 32 * 1024 ≤ bound = spends.1 in
     (omega arith, omega arith)
 
-near-after : (kind : Kind) (place new reached now limit : ℕ) (next : Next) → Spends place new reached now (number_of kind 4 32) limit 1024 next → IsNear now next
+near-after : (kind : LifeKind) (place new reached now limit : ℕ) (next : Next) → Spends place new reached now (number_of kind 4 32) limit 1024 next → IsNear now next
 near-after kind place new reached now limit (At clock access) spends = tt
 near-after kind place new reached now limit Quiet spends = tt
 near-after kind place new reached now limit (More bound) spends = let is : bound ≡ now = spends.2 in (omega arith, omega arith)
@@ -358,7 +358,7 @@ module _ (w : World) (r : Record) (runner : Runner) (memory : List ℕ) (after :
       subst (λ (y : CogState × Access). changed y.0 (change_by turn.key.cog turn.key.clock turn.key.cog y.1 turn.answer) ≡ Running origin) (λ i. (b.2 i, b.4 i)) (sym comes.state ∙ runs) in
       ((startable-by b.1 turn.key.cog turn.key.clock turn.key.cog turn.answer b.0 origin proper (test-same turn.key.cog turn.key.cog refl) state).0, subst (λ (k : ℕ). IsWindow turn.key.cog k) (sym b.3) (window-is turn.key.cog (b.0 + 1) near))
 
-lead-is : (kind : Kind) → number_of kind 8192 8192 ≡ 8192
+lead-is : (kind : LifeKind) → number_of kind 8192 8192 ≡ 8192
 lead-is OfPasm = refl
 lead-is OfSpin = refl
 

@@ -10,8 +10,8 @@ use Rattle.p8_access.specs.Hub.{cog_state}
 use Rattle.p8_ledger.specs.Standing.{FitsState}
 use Rattle.p8_access.specs.Worlds.{World}
 use Rattle.p8_access.specs.Histories.{since_begin, Ended}
-use Rattle.p8_cog.specs.declared.life_kind.Kind.{Kind}
-use Rattle.p8_cog.specs.declared.life_kind.Kind.TheVariants.{Pasm as OfPasm, Spin as OfSpin}
+use Rattle.p8_cog.specs.declared.life_kind.LifeKind.{LifeKind}
+use Rattle.p8_cog.specs.declared.life_kind.LifeKind.TheVariants.{Pasm as OfPasm, Spin as OfSpin}
 use Rattle.p8_cog.specs.Kinds.{number_of, fact_of}
 use Rattle.p8_cog.specs.Lives.{asks}
 use Rattle.p8_cog.specs.WholeLives as Life
@@ -29,7 +29,7 @@ use Rattle.p8_desk.specs.Seats.{Spoken, Granted, Settled}
 use Rattle.p8_desk.proofs.Riding.{saying-goes, owes-unsaid}
 
 -- a life of a kind began with something of that kind
-numbers-of : (kind : Kind) (b : Begun) (pasm spin : Type 0) → fact_of kind pasm spin → (pasm → pace_of b ≡ 4) → (pasm → most_of b ≡ 16400) → (spin → pace_of b ≡ 32) → (spin → most_of b ≡ 565264)
+numbers-of : (kind : LifeKind) (b : Begun) (pasm spin : Type 0) → fact_of kind pasm spin → (pasm → pace_of b ≡ 4) → (pasm → most_of b ≡ 16400) → (spin → pace_of b ≡ 32) → (spin → most_of b ≡ 565264)
     → (number_of kind 4 32 ≡ pace_of b) × (8192 + 1024 * number_of kind 8 544 + 16 ≡ most_of b)
 numbers-of OfPasm b pasm spin fact p m q k = (sym (p fact), sym (m fact))
 numbers-of OfSpin b pasm spin fact p m q k = (sym (q fact), sym (k fact))

@@ -72,7 +72,7 @@ fn settle(ledger: &Ledger, runner: &mut Runner, cog: u8, taken: Taken) -> Turned
 }
 
 /// What an answer changes besides the ledger and the life.
-fn note(made: &mut u64, over: &mut bool, answer: Turned)
+fn record_answer(made: &mut u64, over: &mut bool, answer: Turned)
     requires { made.old < 2 ^ 63 }
     ensures made { made.new ≡ made_by answer made.old }
     ensures over { over.new ≡ (over.old || is_over answer) }
@@ -100,7 +100,7 @@ impl Rider {
         let said = speak(ledger, &mut self.runner, self.cog);
         let taken = ledger.take(script, self.cog);
         let answer = settle(ledger, &mut self.runner, self.cog, taken);
-        note(&mut self.made, &mut self.over, answer);
+        record_answer(&mut self.made, &mut self.over, answer);
         let count = ledger.count();
         Outcome {
             said,

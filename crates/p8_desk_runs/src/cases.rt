@@ -3,7 +3,7 @@ ghost use Rattle.std.specs.Prelude.{◌≤◌, IfOk};
 ghost use Rattle.p8_access.specs.Proper.{IsProperOrigin};
 
 use crate::crews::{CALLS, crew_of, run_refused};
-use crate::ways::{Way, run};
+use crate::ways::{DriveMode, run};
 use anyhow::anyhow;
 use p8_access::Boot;
 use p8_desk::Start;
@@ -166,7 +166,7 @@ impl<'a> Case<'a> {
     pub fn traced<R: Files + Alloc<A = Global> + Threads + Wait + Sync>(
         &self,
         rt: &R,
-        way: Way,
+        way: DriveMode,
     ) -> anyhow::Result<Vec<u8>> {
         let ended = run(rt, rt.alloc(), self.start(rt)?, way)?;
         self.text(rt.alloc(), &ended)
@@ -195,7 +195,7 @@ impl<'a> Case<'a> {
     pub fn agrees<R: Files + Alloc<A = Global> + Threads + Wait + Sync>(
         &self,
         rt: &R,
-        way: Way,
+        way: DriveMode,
     ) -> anyhow::Result<bool> {
         let text = self.traced(rt, way)?;
         let expected = fs::read(rt, self.trace)?;

@@ -20,31 +20,37 @@ use std::fs::{self, Files};
 use std::process::ExitCode;
 use std::sync::Wait;
 use std::thread::Threads;
-use ways::{Row, Way, holds};
+use ways::{DriveMode, WorkedCalls, holds};
 
 /// How the programs are run at the desk, and what is printed of it.
-const WAYS: [(Way, &str); 6] = [
-    (Way::Driven, "driven by one caller"),
-    (Way::Called(Order::Rising), "cogs 0 to 7, one call each"),
-    (Way::Called(Order::Falling), "cogs 7 to 0, one call each"),
+const WAYS: [(DriveMode, &str); 6] = [
+    (DriveMode::Driven, "driven by one caller"),
     (
-        Way::Called(Order::LastFirst),
+        DriveMode::Called(Order::Rising),
+        "cogs 0 to 7, one call each",
+    ),
+    (
+        DriveMode::Called(Order::Falling),
+        "cogs 7 to 0, one call each",
+    ),
+    (
+        DriveMode::Called(Order::LastFirst),
         "cog 7 ten times, then cogs 0 to 7",
     ),
     (
-        Way::Called(Order::Whole),
+        DriveMode::Called(Order::Whole),
         "each cog for as long as it makes turns",
     ),
-    (Way::Threads, "eight threads"),
+    (DriveMode::Threads, "eight threads"),
 ];
 
 /// The program that is run many times: cog 1 is stopped and started anew, and three cogs wait, for clocks and for a pin.
 const OFTEN: &str = "spin restarts.bin - 60000 1000 - -";
 
 /// The rows of one caller that were worked by hand, each with what its run begins from.
-const ROWS: [(Row, &str); 2] = [
-    (Row::Turns, "run row-01.bin - 10000 100000 - -"),
-    (Row::Promises, "run row-07.bin - 100000 100000 - -"),
+const ROWS: [(WorkedCalls, &str); 2] = [
+    (WorkedCalls::Turns, "run row-01.bin - 10000 100000 - -"),
+    (WorkedCalls::Promises, "run row-07.bin - 100000 100000 - -"),
 ];
 
 /// How often it is run.
@@ -70,7 +76,7 @@ impl Tally {
 fn run_all<R: Files + Alloc<A = Global> + Threads + Wait + Sync>(
     rt: &R,
     cases: &str,
-    way: Way,
+    way: DriveMode,
 ) -> anyhow::Result<Tally> {
     let mut tally = Tally { agreed: 0, all: 0 };
     for line in cases.lines() {
@@ -88,7 +94,7 @@ fn run_often<R: Files + Alloc<A = Global> + Threads + Wait + Sync>(
     let expected = case.alone(rt)?;
     let mut tally = Tally { agreed: 0, all: 0 };
     for _ in 0..TIMES {
-        let text = case.traced(rt, Way::Threads)?;
+        let text = case.traced(rt, DriveMode::Threads)?;
         tally.count(text == expected);
     }
     Ok(tally)

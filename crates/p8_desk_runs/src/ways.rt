@@ -15,7 +15,7 @@ use std::thread::Threads;
 
 /// How the passes of a desk are called.
 #[derive(Clone, Copy)]
-pub enum Way {
+pub enum DriveMode {
     /// By `drive_all`.
     Driven,
     /// By one caller, in this order.
@@ -34,20 +34,20 @@ fn drive_threads<R: Threads + Wait + Sync>(rt: &R, desk: &Desk, passes: &mut Pas
 }
 
 /// Calls the passes in this way until the history has ended, or for very many rounds.
-fn drive<R: Threads + Wait + Sync>(rt: &R, way: Way, desk: &Desk, passes: &mut Passes)
+fn drive<R: Threads + Wait + Sync>(rt: &R, way: DriveMode, desk: &Desk, passes: &mut Passes)
     requires { AllThere desk.now passes.old }
     ensures { AllThere desk.now passes.new }
 {
     match way {
-        Way::Driven => {}
-        Way::Called(order) => rounds(order, desk, passes),
-        Way::Threads => drive_threads(rt, desk, passes),
+        DriveMode::Driven => {}
+        DriveMode::Called(order) => rounds(order, desk, passes),
+        DriveMode::Threads => drive_threads(rt, desk, passes),
     }
 }
 
 /// A row of one caller, worked by hand: what is asked of a desk before its first turn.
 #[derive(Clone, Copy)]
-pub enum Row {
+pub enum WorkedCalls {
     /// Each call makes a turn.
     Turns,
     /// Cogs promise in turn.
@@ -55,15 +55,15 @@ pub enum Row {
 }
 
 /// Whether a row holds at the desk of a start.
-pub fn holds(alloc: Global, start: Start, row: Row) -> Result<bool, NoMemory>
+pub fn holds(alloc: Global, start: Start, row: WorkedCalls) -> Result<bool, NoMemory>
     requires clocks { start.limits.clocks ≤ 4000000000 }
     requires turns { start.limits.turns ≤ 1000000 }
     requires first { IsProperOrigin start.boot.first }
 {
     let (desk, mut passes) = Desk::open(alloc, start)?;
     match row {
-        Row::Turns => Ok(makes_each_turn(&desk, &mut passes)),
-        Row::Promises => Ok(promises_in_turn(&desk, &mut passes)),
+        WorkedCalls::Turns => Ok(makes_each_turn(&desk, &mut passes)),
+        WorkedCalls::Promises => Ok(promises_in_turn(&desk, &mut passes)),
     }
 }
 
@@ -72,7 +72,7 @@ pub fn run<R: Threads + Wait + Sync>(
     rt: &R,
     alloc: Global,
     start: Start,
-    way: Way,
+    way: DriveMode,
 ) -> Result<Ended, NoMemory>
     requires clocks { start.limits.clocks ≤ 4000000000 }
     requires turns { start.limits.turns ≤ 1000000 }

@@ -5,13 +5,13 @@ ghost use Rattle.p8_explain.specs.Slips.{forms, first_form, by_form};
 ghost use Rattle.p8_explain.specs.Explaining.{advice, said, found, told, line_or_none, sample, of_dot, begins_with_clock, is_script, of_script};
 ghost use Rattle.p8_explain.specs.Explaining.{closing, title, position, place_text, explanation_of, absence_of, entry_of};
 
+use crate::appending::push_decimal;
 use crate::causes::{push_seen, token_at, token_before, token_behind};
 use crate::entries::{example, mends, says};
 use crate::lines::{first_of, line_of, push_marked, rest_of};
 use crate::sizes::push_size;
 use crate::slips::{form_at, is_word, push_form, push_line, slip_at, word_asked};
 use crate::standing::{push_of_byte, push_of_name};
-use crate::texts::push_decimal;
 use p8_build::Size;
 use p8_instr::push_text;
 use p8_tree::{Fault, Place, Refusal, Text, refusal_name};

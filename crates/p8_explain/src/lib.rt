@@ -2,6 +2,7 @@
 //! what often mends it.
 #![tactic(auto)]
 
+mod appending;
 mod causes;
 mod entries;
 mod explaining;
@@ -9,8 +10,7 @@ mod lines;
 mod sizes;
 mod slips;
 mod standing;
-mod texts;
 
+pub use appending::push_decimal;
 pub use explaining::{absence, entry, explanation, push_place};
 pub use lines::{push_cell, push_marked, rest_of};
-pub use texts::push_decimal;

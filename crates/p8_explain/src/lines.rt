@@ -3,7 +3,7 @@ ghost use Rattle.std.specs.Prelude.{take, drop, ◌≡◌, ◌++◌, ◌^◌, �
 ghost use Rattle.p8_lexer.specs.Places.{start};
 ghost use Rattle.p8_explain.specs.Explaining.{shown, cell, line_from, line_of, left_of, marked};
 
-use crate::texts::push_spaces;
+use crate::appending::push_spaces;
 use p8_instr::push_text;
 use p8_lexer::{Characters, START, behind};
 use p8_tree::Place;

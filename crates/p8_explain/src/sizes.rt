@@ -2,7 +2,7 @@
 ghost use Rattle.std.specs.Prelude.{◌≡◌, ◌++◌, ◌<◌, OnOk};
 ghost use Rattle.p8_explain.specs.Sizes.{least_words, number_text, counted, beyond, excess, of_method, of_image, things, of_arguments, of_size};
 
-use crate::texts::push_decimal;
+use crate::appending::push_decimal;
 use p8_build::Size;
 use p8_instr::push_text;
 use p8_stmt::MethodSize;

@@ -7,9 +7,9 @@ ghost use Rattle.p8_tree.specs.Faults.{is_same_place};
 ghost use Rattle.p8_explain.specs.Standing.{stands_at, character_from, is_marked_twice, between, of_number, of_character, of_byte};
 ghost use Rattle.p8_explain.specs.Standing.{begins_with, first_from, place_between, of_place, of_place_or_none, of_first, of_name};
 
+use crate::appending::push_decimal;
 use crate::causes::{first_character, is_of_word, push_quoted};
 use crate::lines::rest_of;
-use crate::texts::push_decimal;
 use p8_instr::push_text;
 use p8_lexer::{Characters, START, behind};
 use p8_tree::Place;

@@ -5,7 +5,7 @@ ghost use Rattle.p8_lexer.specs.Words.{capital};
 ghost use Rattle.p8_grammar.specs.Views.{access_of, lexeme_of};
 ghost use Rattle.p8_expr.specs.Words.{mark_of_word, access_at, lexeme_of_word, reserved_as, lexeme_by_word, lexeme_of_token, between_quotes};
 
-use p8_grammar::{Access, Lexeme, Mark, Operator, Reserved, Term};
+use p8_grammar::{Access, Lexeme, Operator, Punctuation, Reserved, Term};
 use p8_lexer::{Characters, Meaning, Token, TokenKind, Word, word_of};
 use p8_tree::Text;
 use p8_words::NoMemory;
@@ -16,17 +16,17 @@ fn mark_of_word(word: Word) -> Lexeme
     ensures { lexeme_of result ≡ mark_of_word word }
 {
     let mark = match word {
-        Word::LeftParenthesis => Mark::LeftParenthesis,
-        Word::RightParenthesis => Mark::RightParenthesis,
-        Word::LeftBracket => Mark::LeftBracket,
-        Word::RightBracket => Mark::RightBracket,
-        Word::Comma => Mark::Comma,
-        Word::Colon => Mark::Colon,
-        Word::Dot => Mark::Dot,
-        Word::DotDot => Mark::DotDot,
-        Word::Hash => Mark::Hash,
-        Word::Backslash => Mark::Backslash,
-        Word::EqualSign => Mark::Equal,
+        Word::LeftParenthesis => Punctuation::LeftParenthesis,
+        Word::RightParenthesis => Punctuation::RightParenthesis,
+        Word::LeftBracket => Punctuation::LeftBracket,
+        Word::RightBracket => Punctuation::RightBracket,
+        Word::Comma => Punctuation::Comma,
+        Word::Colon => Punctuation::Colon,
+        Word::Dot => Punctuation::Dot,
+        Word::DotDot => Punctuation::DotDot,
+        Word::Hash => Punctuation::Hash,
+        Word::Backslash => Punctuation::Backslash,
+        Word::EqualSign => Punctuation::Equal,
         _ => return Lexeme::Term(Term::Other),
     };
     Lexeme::Mark(mark)

@@ -16,20 +16,20 @@ number seed zero = seed
 number seed (suc k) = after (number seed k)
 
 -- an instruction with these operands
-abbrev pub on : Instr → (dest source : ℕ) → Instr
-on instr dest source = record { opcode = instr.opcode; flags = instr.flags; cond = instr.cond; dest = dest; source = source }
+abbrev pub with_operands : Instr → (dest source : ℕ) → Instr
+with_operands instr dest source = record { opcode = instr.opcode; flags = instr.flags; cond = instr.cond; dest = dest; source = source }
 
 -- the eight instructions: RDLONG, WRLONG, ADD, XOR, SUB, ROL, COGID, MOV
 abbrev pub chosen : (choice dest source address : ℕ) → Instr
 chosen choice dest source address =
-    if choice == 0 then on (writing 2) dest address
-    else (if choice == 1 then on (quiet 2) dest address
-    else (if choice == 2 then on (writing 32) dest source
-    else (if choice == 3 then on (writing 27) dest source
-    else (if choice == 4 then on (writing 33) dest source
-    else (if choice == 5 then on (writing 9) dest source
-    else (if choice == 6 then on (hub_writing 1) dest 1
-    else on (writing 40) dest source))))))
+    if choice == 0 then with_operands (writing 2) dest address
+    else (if choice == 1 then with_operands (quiet 2) dest address
+    else (if choice == 2 then with_operands (writing 32) dest source
+    else (if choice == 3 then with_operands (writing 27) dest source
+    else (if choice == 4 then with_operands (writing 33) dest source
+    else (if choice == 5 then with_operands (writing 9) dest source
+    else (if choice == 6 then with_operands (hub_writing 1) dest 1
+    else with_operands (writing 40) dest source))))))
 
 -- the instruction that a number makes: its registers are 480 to 495, and 464 to 479 hold addresses of the hub
 abbrev pub made_instr : ℕ → Instr

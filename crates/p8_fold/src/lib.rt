@@ -5,11 +5,11 @@ mod consts;
 mod folding;
 mod laws;
 mod meanings;
-mod texts;
+mod string_texts;
 mod values;
 
 pub use consts::Consts;
 pub use laws::{other_has_no_value, value_or_fault};
 pub use meanings::{Here, Meaning};
-pub use texts::{first_in_text, put_text};
+pub use string_texts::{first_in_text, put_text};
 pub use values::{FoldFault, value_of};

@@ -3,9 +3,9 @@ use Rattle.std.specs.Prelude.{ℕ}
 use Rattle.p8_tree.specs.declared.places.Place.{Place}
 use Rattle.p8_gen.specs.declared.code.StringUse.{StringUse}
 use Rattle.p8_gen.specs.declared.writer.Line.{Line}
-use Rattle.p8_gen.specs.declared.writer.Way.{Way}
+use Rattle.p8_gen.specs.declared.writer.Jump.{Jump}
 
-abbrev pub way_of : Way → ℕ × ℕ
+abbrev pub way_of : Jump → ℕ × ℕ
 way_of way = (way.from, way.to)
 
 abbrev pub use_of : StringUse → ℕ × Place

@@ -17,4 +17,4 @@ pub use expressions::{BuiltForm, form_of_built};
 pub use labels::Labels;
 pub use laws::{bytecodes_are_whole, each_bytecode_has_a_line, places_change_no_length};
 pub use variables::{Base, Home, Operation};
-pub use writer::{Kept, Line, Way, Writer};
+pub use writer::{Jump, Kept, Line, Writer};

@@ -17,7 +17,7 @@ use std::mem;
 
 /// The way of a jump, in bytes from the first byte of its method. Its offset is counted from one place to the other.
 #[derive(Clone, Copy, Debug, PartialEq, Eq)]
-pub struct Way {
+pub struct Jump {
     /// The place after the jump.
     pub from: u32,
     /// The place that it jumps to.
@@ -41,7 +41,7 @@ pub struct Kept {
     /// The statements of which a jump goes too far for its width.
     pub too_far: Vec<Place>,
     /// The ways of its jumps.
-    pub ways: Vec<Way>,
+    pub ways: Vec<Jump>,
     /// For each bytecode where it begins and which statement it is made from.
     pub lines: Vec<Line>,
 }
@@ -227,7 +227,7 @@ impl Writer {
     }
 
     // Keeps that the next bytecode pushes the address of a text.
-    fn note(&mut self, place: Place) -> Result<(), AllocError>
+    fn record_text(&mut self, place: Place) -> Result<(), AllocError>
         ensures { (w : Written) → Stands self.old w → OnOk result (Stands self.new (record w { texts = w.texts ++ (length w.ops, place) ∷ [] })) }
     {
         match &mut self.kept {
@@ -270,7 +270,7 @@ impl Writer {
     pub fn text(&mut self, place: Place) -> Result<(), AllocError>
         ensures { (w : Written) → Stands self.old w → OnOk result (Stands self.new (text place 0 w)) }
     {
-        self.note(place)?;
+        self.record_text(place)?;
         self.with_number(0x87, 0)
     }
 
@@ -282,7 +282,7 @@ impl Writer {
         match &mut self.kept {
             None => Ok(()),
             Some(kept) => {
-                kept.ways.push(Way { from, to })?;
+                kept.ways.push(Jump { from, to })?;
                 Ok(())
             }
         }

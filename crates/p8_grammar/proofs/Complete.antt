@@ -6,7 +6,7 @@ use Rattle.p8_tree.specs.declared.places.Place.{Place}
 use Rattle.p8_tree.specs.Expressions.{Tree, Variable}
 use Rattle.p8_grammar.specs.Lexemes.{Setting, is_value, inside, behind, Mark, left_parenthesis, right_parenthesis, left_bracket, right_bracket, comma, colon, dot, dot_dot, hash, backslash, equal, Lexeme, mark, prefix_word, infix_word, sign, assigns, object_address, Token, token, is_dat, number, name, string, address, here, string_word, constant_word, look, command, reserved, plain, is_free}
 use Rattle.p8_grammar.specs.Grammar.{word, upto, unquoted, Row, Prefix, rank, prefix_of, infix_of, Reads, operand, before, between, assigned, assigned_by_word, is_boolean, Spells, nothing, a_word, an_expression, an_unquoted, unary, effect_of, a_reserved_word}
-use Rattle.p8_grammar.specs.Machine.{reading, Shape, using, string_opened, string_read, strings_read, choices_read, first_item, Hole, Next, stays, opens, tree, whole_in, target, if_action, on_close, on_comma, close, fresh, Frame, prefix_frame, infix_frame, assign_frame, inside_frame, bar_of, reduce, State, state, joined, entered, entered_all, shut, prefixed, operate, join, assign, beyond, go_on, step, walk, all_of, accepted, accept, start, Use, coloned, altering, grow}
+use Rattle.p8_grammar.specs.Machine.{reading, Shape, using, string_opened, string_read, strings_read, choices_read, first_item, Hole, Next, stays, opens, tree, whole_in, target, if_action, on_close, on_comma, close, fresh, Frame, prefix_frame, infix_frame, assign_frame, inside_frame, level_bound_of, reduce, State, state, joined, entered, entered_all, fill_hole, prefixed, operate, join, assign, beyond, go_on, step, walk, all_of, accepted, accept, start, Use, coloned, altering, grow}
 use Rattle.p8_grammar.proofs.Walks.{goes_on, one_step, steps_on, kept, wraps, both}
 use Rattle.p8_grammar.proofs.FormsRead.{fed, run, variables_run, forms_run, written_target, whole_tree}
 use Rattle.p8_grammar.proofs.FormsStand.{behind_value, behind_same}
@@ -25,8 +25,8 @@ pub record Arrives (s : Setting) (l : ℕ) (e : Tree) (k : List Frame) (o : Opti
   pub whole : whole_in to sh ≡ Some top
   pub same : (j : ℕ) → l ≤ 2 * j → reduce (2 * j) top frames ≡ reduce (2 * j) e k
 
-pub prefix_step : (s : Setting) (k : List Frame) (p : Place) (x : Lexeme) (o : Prefix) → IsTrue (is_value s) → prefix_of (plain x) ≡ Some o → 2 * rank o + 1 < bar_of k → step (state s fresh k) (token p x) ≡ Some (state s fresh (prefix_frame o p ∷ k))
-prefix_step s k p x o d h lt = first x h ∙ ap (λ b. if b then Some (state s fresh (prefix_frame o p ∷ k)) else None) (both (is_value s) (nat_lt (2 * rank o + 1) (bar_of k)) d (lt-ltb (2 * rank o + 1) (bar_of k) lt))
+pub prefix_step : (s : Setting) (k : List Frame) (p : Place) (x : Lexeme) (o : Prefix) → IsTrue (is_value s) → prefix_of (plain x) ≡ Some o → 2 * rank o + 1 < level_bound_of k → step (state s fresh k) (token p x) ≡ Some (state s fresh (prefix_frame o p ∷ k))
+prefix_step s k p x o d h lt = first x h ∙ ap (λ b. if b then Some (state s fresh (prefix_frame o p ∷ k)) else None) (both (is_value s) (nat_lt (2 * rank o + 1) (level_bound_of k)) d (lt-ltb (2 * rank o + 1) (level_bound_of k) lt))
   where
     not_action : (n : Option Next) → if_action s n ≡ None
     not_action n = ap (λ b. if b then None else n) d
@@ -54,13 +54,13 @@ word_walk s sh k p x top r c us s' sh' k' top' d first t lt t' is = by_target (t
     operated : join s (target sh) (Some (suc r, c)) p top k ≡ operate s (Some (suc r, c)) p top k → walk (state s sh k) (token p x ∷ us) ≡ Some (state s' sh' k')
     operated e = steps_on (state s sh k) (state s fresh (infix_frame r c p (reduce (2 * suc r) top k).0 ∷ (reduce (2 * suc r) top k).1)) (token p x) us (first ∙ e ∙ operates s p top k r c d lt) ∙ is
 
-    by_test : (b : Bool) (v : Variable) → (is_boolean (suc r) && nat_lt 21 (bar_of k)) ≡ b → target sh ≡ Some v → walk (state s sh k) (token p x ∷ us) ≡ Some (state s' sh' k')
+    by_test : (b : Bool) (v : Variable) → (is_boolean (suc r) && nat_lt 21 (level_bound_of k)) ≡ b → target sh ≡ Some v → walk (state s sh k) (token p x ∷ us) ≡ Some (state s' sh' k')
     by_test false v e w = operated (join_off s (target sh) (suc r) c p top k e)
     by_test true v e w = steps_on (state s sh k) (joined s r c p v k) (token p x) us (first ∙ ap (λ x. join s x (Some (suc r, c)) p top k) w ∙ join_on s v r c p top k e) ∙ joined_walk s sh k p r c top v us s' sh' k' top' d t w e t' is
 
     by_target : (o : Option Variable) → target sh ≡ o → walk (state s sh k) (token p x ∷ us) ≡ Some (state s' sh' k')
     by_target None w = operated (ap (λ x. join s x (Some (suc r, c)) p top k) w)
-    by_target (Some v) w = by_test (is_boolean (suc r) && nat_lt 21 (bar_of k)) v refl w
+    by_target (Some v) w = by_test (is_boolean (suc r) && nat_lt 21 (level_bound_of k)) v refl w
 
 -- what a reserved word makes of a whole form, where it isn't one of the form's
 pub past_label : (s : Setting) (sh : Shape) (k : List Frame) (p : Place) (m : List ℕ) (x : Lexeme) (top : Tree) → (if is_free x then grow s sh p x else None) ≡ None → tree sh ≡ Some top → step (state s sh k) (token p (reserved m x)) ≡ join s (target sh) (infix_of x) p top k
@@ -89,7 +89,7 @@ infix_walk s sh k p (reserved m x) top r c us s' sh' k' top' d h t lt t' is =
 infix_walk s sh k p x top r c us s' sh' k' top' d h t lt t' is = absurd cc
 
 -- an assignment by AND or OR
-word_assigns : (s : Setting) (sh : Shape) (k : List Frame) (p q : Place) (x : Lexeme) (r c : ℕ) (top : Tree) (v : Variable) (us : List Token) → infix_of (plain x) ≡ Some (r, c) → tree sh ≡ Some top → target sh ≡ Some v → IsTrue (is_boolean r) → 21 < bar_of k → walk (state s sh k) (token p x ∷ token q (mark equal) ∷ us) ≡ walk (state (behind s) fresh (assign_frame (Some c) p v ∷ k)) us
+word_assigns : (s : Setting) (sh : Shape) (k : List Frame) (p q : Place) (x : Lexeme) (r c : ℕ) (top : Tree) (v : Variable) (us : List Token) → infix_of (plain x) ≡ Some (r, c) → tree sh ≡ Some top → target sh ≡ Some v → IsTrue (is_boolean r) → 21 < level_bound_of k → walk (state s sh k) (token p x ∷ token q (mark equal) ∷ us) ≡ walk (state (behind s) fresh (assign_frame (Some c) p v ∷ k)) us
 word_assigns s sh k p q x zero c top v us f t w b lt = absurd cc
 word_assigns s sh k p q x (suc r) c top v us f t w b lt =
     steps_on (state s sh k) (joined s r c p v k) (token p x) (token q (mark equal) ∷ us) (joins s sh k p x r c top v f t w b lt)
@@ -141,7 +141,7 @@ on_comma_none (strings_read q es) top h = absurd cc
 on_comma_none (choices_read q k x xs) top h = absurd cc
 on_comma_none sh top h = refl
 
-pub mark_step : (s s' : Setting) (sh : Shape) (k : List Frame) (p : Place) (m : Mark) (h : Hole) (e top : Tree) (n : Next) → tree sh ≡ Some top → close m h e ≡ Some n → step (state s sh k) (token p (mark m)) ≡ shut m (reduce 22 top k).0 (reduce 22 top k).1
+pub mark_step : (s s' : Setting) (sh : Shape) (k : List Frame) (p : Place) (m : Mark) (h : Hole) (e top : Tree) (n : Next) → tree sh ≡ Some top → close m h e ≡ Some n → step (state s sh k) (token p (mark m)) ≡ fill_hole m (reduce 22 top k).0 (reduce 22 top k).1
 mark_step s s' sh k p right_parenthesis h e top n t c =
     ap (λ o. go_on o s sh k p (mark right_parenthesis)) (on_close_none sh top t) ∙ ap (λ o. beyond o s sh k p (mark right_parenthesis)) t
 mark_step s s' sh k p right_bracket h e top n t c = ap (λ o. beyond o s sh k p (mark right_bracket)) t
@@ -157,15 +157,15 @@ mark_step s s' sh k p hash h e top n t c = absurd cc
 mark_step s s' sh k p backslash h e top n t c = absurd cc
 mark_step s s' sh k p equal h e top n t c = absurd cc
 
-pub assign_step : (s : Setting) (sh : Shape) (k : List Frame) (p : Place) (o : Option ℕ) (top : Tree) (v : Variable) → tree sh ≡ Some top → target sh ≡ Some v → 21 < bar_of k → step (state s sh k) (token p (assigns o)) ≡ Some (state (behind s) fresh (assign_frame o p v ∷ k))
+pub assign_step : (s : Setting) (sh : Shape) (k : List Frame) (p : Place) (o : Option ℕ) (top : Tree) (v : Variable) → tree sh ≡ Some top → target sh ≡ Some v → 21 < level_bound_of k → step (state s sh k) (token p (assigns o)) ≡ Some (state (behind s) fresh (assign_frame o p v ∷ k))
 assign_step s sh k p o top v t w lt =
-    ap (λ x. beyond x s sh k p (assigns o)) t ∙ ap (λ x. assign s x o p k) w ∙ rw (lt-ltb 21 (bar_of k) lt) refl
+    ap (λ x. beyond x s sh k p (assigns o)) t ∙ ap (λ x. assign s x o p k) w ∙ rw (lt-ltb 21 (level_bound_of k) lt) refl
 
 same_next : {n n' : Next} → Some n ≡ Some n' → n ≡ n'
 same_next h = cc
 
 mutual
-  pub arrives : {s : Setting} {l : ℕ} {e : Tree} {ts : List Token} → Reads s l e ts → l ≤ 22 → (k : List Frame) → l < bar_of k → Arrives s l e k (walk (state s fresh k) ts)
+  pub arrives : {s : Setting} {l : ℕ} {e : Tree} {ts : List Token} → Reads s l e ts → l ≤ 22 → (k : List Frame) → l < level_bound_of k → Arrives s l e k (walk (state s fresh k) ts)
   arrives {s = s} {e = e} (operand f sp) small k lt =
       let r = forms_run f in
       record { sh = r.sh; frames = k; top = e; to = s; is = spelled sp (stays r.sh) r.is k; same_setting = λ d. refl; whole = r.whole; same = λ j h. refl }
@@ -256,7 +256,7 @@ mutual
           let st = state (inside s) fresh (inside_frame s hole ∷ k) in
           goes_on (state s fresh k) st ts (us ++ token p (mark m) ∷ []) (ih (opens hole) eq)
           ∙ goes_on st (state a.to a.sh a.frames) us (token p (mark m) ∷ []) a.is
-          ∙ one_step (state a.to a.sh a.frames) (entered s k n) (token p (mark m)) (mark_step a.to s a.sh a.frames p m hole e a.top n (whole_tree a.to a.sh a.top a.whole) f ∙ ap (λ q. shut m q.0 q.1) (a.same 11 (omega arith)) ∙ ap (λ o. entered_all s k o) f)
+          ∙ one_step (state a.to a.sh a.frames) (entered s k n) (token p (mark m)) (mark_step a.to s a.sh a.frames p m hole e a.top n (whole_tree a.to a.sh a.top a.whole) f ∙ ap (λ q. fill_hole m q.0 q.1) (a.same 11 (omega arith)) ∙ ap (λ o. entered_all s k o) f)
   spelled {s = s} (an_unquoted {row = row} {e = e} {m = m} {ts = ts} {us = us} p sp r apart) n h k =
       go (λ n' h'. spelled sp n' h' k) (arrives r (omega arith) [] (omega arith)) (λ q. arrives r (omega arith) (inside_frame s (first_item q) ∷ k) (omega arith)) (run s row) refl h
     where
@@ -265,7 +265,7 @@ mutual
           let a = arr q in
           goes_on (state s fresh k) (state s (string_opened q) k) ts (us ++ token p (mark m) ∷ []) (ih (stays (string_opened q)) eq)
           ∙ goes_on (state s (string_opened q) k) (state a.to a.sh a.frames) us (token p (mark m) ∷ []) (opened_walk s q k us alone.to alone.sh alone.frames alone.top apart alone.is (whole_tree alone.to alone.sh alone.top alone.whole) ∙ a.is)
-          ∙ one_step (state a.to a.sh a.frames) (entered s k n) (token p (mark m)) (mark_step a.to s a.sh a.frames p m (first_item q) e a.top n (whole_tree a.to a.sh a.top a.whole) f ∙ ap (λ q. shut m q.0 q.1) (a.same 11 (omega arith)) ∙ ap (λ o. entered_all s k o) f)
+          ∙ one_step (state a.to a.sh a.frames) (entered s k n) (token p (mark m)) (mark_step a.to s a.sh a.frames p m (first_item q) e a.top n (whole_tree a.to a.sh a.top a.whole) f ∙ ap (λ q. fill_hole m q.0 q.1) (a.same 11 (omega arith)) ∙ ap (λ o. entered_all s k o) f)
       go ih alone arr None eq f = absurd cc
       go ih alone arr (Some (opens hole)) eq f = absurd cc
       go ih alone arr (Some (stays sh)) eq f = absurd cc

@@ -7,7 +7,7 @@ use Rattle.p8_grammar.specs.Lexemes.{Setting, inside, Lexeme, token}
 use Rattle.p8_grammar.specs.Machine.{string_opened, string_read, done, first_item, fresh, Frame, inside_frame, State, state, second_word, go_on, step, is_coloned, is_text, is_word, is_ordinary, lone}
 use Rattle.p8_grammar.specs.Views.{shape_of, frame_of, term_of, operator_of, lexeme_of}
 use Rattle.p8_grammar.specs.Levels.{IsSame, Takes}
-use Rattle.p8_grammar.specs.declared.lexemes.Mark as mark
+use Rattle.p8_grammar.specs.declared.lexemes.Punctuation as mark
 use Rattle.p8_grammar.specs.declared.lexemes.Operator as operator
 use Rattle.p8_grammar.specs.declared.lexemes.Operator.TheVariants as operator_case
 use Rattle.p8_grammar.specs.declared.lexemes.Lexeme as lexeme
@@ -49,7 +49,7 @@ pub operator_other : (o : operator.Operator) → IsTrue (is_word (operator_of o)
 operator_other (operator_case.Prefix r k) = refl
 operator_other o = refl
 
-pub lexeme_other : (x : lexeme.Lexeme) → ((m : mark.Mark) → x ≡ lexeme_case.Mark m → ⊥) → ((t : term.Term) → x ≡ lexeme_case.Term t → ⊥) → IsTrue (is_word (lexeme_of x))
+pub lexeme_other : (x : lexeme.Lexeme) → ((m : mark.Punctuation) → x ≡ lexeme_case.Mark m → ⊥) → ((t : term.Term) → x ≡ lexeme_case.Term t → ⊥) → IsTrue (is_word (lexeme_of x))
 lexeme_other (lexeme_case.Mark m) h g = absurd (h m refl)
 lexeme_other (lexeme_case.Operator o) h g = operator_other o
 lexeme_other (lexeme_case.Term t) h g = absurd (g t refl)

@@ -6,7 +6,7 @@ use Rattle.p8_tree.specs.declared.places.Place.{Place}
 use Rattle.p8_tree.specs.Expressions.{Tree, Variable, Register, whole}
 use Rattle.p8_grammar.specs.Lexemes.{Setting, is_value, is_written, equal, Lexeme, mark, infix_word, sign, reserved, plain, Token, token}
 use Rattle.p8_grammar.specs.Grammar.{infix_of, is_boolean}
-use Rattle.p8_grammar.specs.Machine.{reading, addressing, changing, used, Shape, coloned, named, indexed_name, parted, memory_word, register_word, ready, Next, tree, if_reading, target, labelled, fresh, Frame, infix_frame, bar_of, reduce, State, state, joined, operate, join, grow, beyond, go_on, step, walk}
+use Rattle.p8_grammar.specs.Machine.{reading, addressing, changing, used, Shape, coloned, named, indexed_name, parted, memory_word, register_word, ready, Next, tree, if_reading, target, labelled, fresh, Frame, infix_frame, level_bound_of, reduce, State, state, joined, operate, join, grow, beyond, go_on, step, walk}
 use Rattle.p8_grammar.proofs.Walks.{kept, both}
 
 pub first_true : (a b : Bool) → IsTrue (a && b) → IsTrue a
@@ -61,10 +61,10 @@ target_tree (ready (changing q c) w x) v h = absurd cc
 target_tree sh v h = absurd cc
 
 -- what comes of an operator that is a word, by the test
-pub join_on : (s : Setting) (v : Variable) (r c : ℕ) (p : Place) (e : Tree) (k : List Frame) → IsTrue (is_boolean (suc r) && nat_lt 21 (bar_of k)) → join s (Some v) (Some (suc r, c)) p e k ≡ Some (joined s r c p v k)
+pub join_on : (s : Setting) (v : Variable) (r c : ℕ) (p : Place) (e : Tree) (k : List Frame) → IsTrue (is_boolean (suc r) && nat_lt 21 (level_bound_of k)) → join s (Some v) (Some (suc r, c)) p e k ≡ Some (joined s r c p v k)
 join_on s v r c p e k h = ap (λ b. if b then Some (joined s r c p v k) else operate s (Some (suc r, c)) p e k) h
 
-pub join_off : (s : Setting) (t : Option Variable) (r c : ℕ) (p : Place) (e : Tree) (k : List Frame) → (is_boolean r && nat_lt 21 (bar_of k)) ≡ false → join s t (Some (r, c)) p e k ≡ operate s (Some (r, c)) p e k
+pub join_off : (s : Setting) (t : Option Variable) (r c : ℕ) (p : Place) (e : Tree) (k : List Frame) → (is_boolean r && nat_lt 21 (level_bound_of k)) ≡ false → join s t (Some (r, c)) p e k ≡ operate s (Some (r, c)) p e k
 join_off s None r c p e k h = refl
 join_off s (Some v) zero c p e k h = refl
 join_off s (Some v) (suc r) c p e k h = ap (λ b. if b then Some (joined s r c p v k) else operate s (Some (suc r, c)) p e k) h
@@ -95,9 +95,9 @@ boolean_word x r c f b = go (plain x) f
     go y h = absurd cc
 
 -- `=` may come
-pub joins : (s : Setting) (sh : Shape) (k : List Frame) (p : Place) (x : Lexeme) (r c : ℕ) (top : Tree) (v : Variable) → infix_of (plain x) ≡ Some (suc r, c) → tree sh ≡ Some top → target sh ≡ Some v → IsTrue (is_boolean (suc r)) → 21 < bar_of k → step (state s sh k) (token p x) ≡ Some (joined s r c p v k)
+pub joins : (s : Setting) (sh : Shape) (k : List Frame) (p : Place) (x : Lexeme) (r c : ℕ) (top : Tree) (v : Variable) → infix_of (plain x) ≡ Some (suc r, c) → tree sh ≡ Some top → target sh ≡ Some v → IsTrue (is_boolean (suc r)) → 21 < level_bound_of k → step (state s sh k) (token p x) ≡ Some (joined s r c p v k)
 joins s sh k p x r c top v f t w h lt =
-    word_step s sh k p x (Some (suc r, c)) top f (boolean_word x (suc r) c f h) t ∙ ap (λ x. join s x (Some (suc r, c)) p top k) w ∙ join_on s v r c p top k (both (is_boolean (suc r)) (nat_lt 21 (bar_of k)) h (lt-ltb 21 (bar_of k) lt))
+    word_step s sh k p x (Some (suc r, c)) top f (boolean_word x (suc r) c f h) t ∙ ap (λ x. join s x (Some (suc r, c)) p top k) w ∙ join_on s v r c p top k (both (is_boolean (suc r)) (nat_lt 21 (level_bound_of k)) h (lt-ltb 21 (level_bound_of k) lt))
 
 same_shape : (s s' : Setting) (sh sh' : Shape) (k k' : List Frame) → Some (state s sh k) ≡ Some (state s' sh' k') → sh ≡ sh'
 same_shape s s' sh sh' k k' h = cc
@@ -122,30 +122,30 @@ same_tree : (x y : Tree) → Some x ≡ Some y → x ≡ y
 same_tree x y h = cc
 
 -- nothing is ended by AND or OR after a variable that may be assigned
-pub reduced_is : (sh : Shape) (k : List Frame) (r : ℕ) (top : Tree) (v : Variable) → tree sh ≡ Some top → target sh ≡ Some v → IsTrue (is_boolean (suc r) && nat_lt 21 (bar_of k)) → reduce (2 * suc r) top k ≡ (used reading v, k)
+pub reduced_is : (sh : Shape) (k : List Frame) (r : ℕ) (top : Tree) (v : Variable) → tree sh ≡ Some top → target sh ≡ Some v → IsTrue (is_boolean (suc r) && nat_lt 21 (level_bound_of k)) → reduce (2 * suc r) top k ≡ (used reading v, k)
 reduced_is sh k r top v t w h =
-    let most : suc r ≤ 10 = boolean_most (suc r) (first_true (is_boolean (suc r)) (nat_lt 21 (bar_of k)) h) in
-    let low : 21 < bar_of k = ltb-true 21 (bar_of k) (second_true (is_boolean (suc r)) (nat_lt 21 (bar_of k)) h) in
+    let most : suc r ≤ 10 = boolean_most (suc r) (first_true (is_boolean (suc r)) (nat_lt 21 (level_bound_of k)) h) in
+    let low : 21 < level_bound_of k = ltb-true 21 (level_bound_of k) (second_true (is_boolean (suc r)) (nat_lt 21 (level_bound_of k)) h) in
     kept (2 * suc r) top k (omega (arith, most, low)) ∙ ap (λ e. (e, k)) (same_tree top (used reading v) (sym t ∙ target_tree sh v w))
 
 -- AND or OR after a variable, and an operand after it
-pub joined_walk : (s : Setting) (sh : Shape) (k : List Frame) (p : Place) (r c : ℕ) (top : Tree) (v : Variable) (us : List Token) (s' : Setting) (sh' : Shape) (k' : List Frame) (top' : Tree) → IsTrue (is_value s) → tree sh ≡ Some top → target sh ≡ Some v → IsTrue (is_boolean (suc r) && nat_lt 21 (bar_of k)) → tree sh' ≡ Some top' → walk (state s fresh (infix_frame r c p (reduce (2 * suc r) top k).0 ∷ (reduce (2 * suc r) top k).1)) us ≡ Some (state s' sh' k') → walk (joined s r c p v k) us ≡ Some (state s' sh' k')
+pub joined_walk : (s : Setting) (sh : Shape) (k : List Frame) (p : Place) (r c : ℕ) (top : Tree) (v : Variable) (us : List Token) (s' : Setting) (sh' : Shape) (k' : List Frame) (top' : Tree) → IsTrue (is_value s) → tree sh ≡ Some top → target sh ≡ Some v → IsTrue (is_boolean (suc r) && nat_lt 21 (level_bound_of k)) → tree sh' ≡ Some top' → walk (state s fresh (infix_frame r c p (reduce (2 * suc r) top k).0 ∷ (reduce (2 * suc r) top k).1)) us ≡ Some (state s' sh' k') → walk (joined s r c p v k) us ≡ Some (state s' sh' k')
 joined_walk s sh k p r c top v us s' sh' k' top' d t w h t' is =
     past_word s r c p v k us s' sh' k' top' d t' (ap (λ q. walk (state s fresh (infix_frame r c p q.0 ∷ q.1)) us) (sym (reduced_is sh k r top v t w h)) ∙ is)
 
 -- the answers of the code
-pub join_taken : (s : Setting) (sh : Shape) (k : List Frame) (p : Place) (r l c : ℕ) (v : Variable) → r ≡ suc l → target sh ≡ Some v → IsTrue (is_boolean r && nat_lt 21 (bar_of k)) → option_and_then (λ e. join s (target sh) (Some (r, c)) p e k) (tree sh) ≡ Some (joined s l c p v k)
+pub join_taken : (s : Setting) (sh : Shape) (k : List Frame) (p : Place) (r l c : ℕ) (v : Variable) → r ≡ suc l → target sh ≡ Some v → IsTrue (is_boolean r && nat_lt 21 (level_bound_of k)) → option_and_then (λ e. join s (target sh) (Some (r, c)) p e k) (tree sh) ≡ Some (joined s l c p v k)
 join_taken s sh k p r l c v same w h =
     ap (λ o. option_and_then (λ e. join s (target sh) (Some (r, c)) p e k) o) (target_tree sh v w)
     ∙ ap (λ x. join s x (Some (r, c)) p (used reading v) k) w
     ∙ ap (λ r. join s (Some v) (Some (r, c)) p (used reading v) k) same
-    ∙ join_on s v l c p (used reading v) k (sym (ap (λ r. is_boolean r && nat_lt 21 (bar_of k)) same) ∙ h)
+    ∙ join_on s v l c p (used reading v) k (sym (ap (λ r. is_boolean r && nat_lt 21 (level_bound_of k)) same) ∙ h)
 
-operate_too : (s : Setting) (t : Option Variable) (o : Option Tree) (k : List Frame) (p : Place) (r c : ℕ) → (is_boolean r && nat_lt 21 (bar_of k)) ≡ false → option_and_then (λ e. operate s (Some (r, c)) p e k) o ≡ option_and_then (λ e. join s t (Some (r, c)) p e k) o
+operate_too : (s : Setting) (t : Option Variable) (o : Option Tree) (k : List Frame) (p : Place) (r c : ℕ) → (is_boolean r && nat_lt 21 (level_bound_of k)) ≡ false → option_and_then (λ e. operate s (Some (r, c)) p e k) o ≡ option_and_then (λ e. join s t (Some (r, c)) p e k) o
 operate_too s t None k p r c h = refl
 operate_too s t (Some e) k p r c h = sym (join_off s t r c p e k h)
 
-pub not_joined : (s : Setting) (sh : Shape) (k : List Frame) (p : Place) (r c : ℕ) → (is_boolean r && nat_lt 21 (bar_of k)) ≡ false → option_and_then (λ e. operate s (Some (r, c)) p e k) (tree sh) ≡ option_and_then (λ e. join s (target sh) (Some (r, c)) p e k) (tree sh)
+pub not_joined : (s : Setting) (sh : Shape) (k : List Frame) (p : Place) (r c : ℕ) → (is_boolean r && nat_lt 21 (level_bound_of k)) ≡ false → option_and_then (λ e. operate s (Some (r, c)) p e k) (tree sh) ≡ option_and_then (λ e. join s (target sh) (Some (r, c)) p e k) (tree sh)
 not_joined s sh k p r c h = operate_too s (target sh) (tree sh) k p r c h
 
 pub no_target : (s : Setting) (sh sh' : Shape) (k : List Frame) (p : Place) (r c : ℕ) → target sh ≡ None → sh' ≡ sh → option_and_then (λ e. operate s (Some (r, c)) p e k) (tree sh') ≡ option_and_then (λ e. join s (target sh) (Some (r, c)) p e k) (tree sh)

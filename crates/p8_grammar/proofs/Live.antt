@@ -6,7 +6,7 @@ use Rattle.p8_tree.specs.Expressions.{Tree, node, Number, Str, Strings, Var, Cha
 use Rattle.p8_grammar.specs.Lexemes.{Setting, in_method, in_declaration, in_dat, in_data_item, in_action, behind, memory, Mark, left_parenthesis, right_parenthesis, left_bracket, right_bracket, colon, dot, equal, Lexeme, number, name, string, mark, changes, size, Token, token, reserved}
 use Rattle.p8_grammar.specs.Grammar.{Row, with_characters, Head, calls, built, applied, Reads, IsFront}
 use Rattle.p8_grammar.specs.Heights.{height, height_of_trees, IsTooHigh}
-use Rattle.p8_grammar.specs.Machine.{reading, addressing, changing, Shape, memory_word, named, parted, indexed_name, ready, trapped_name, trapped_element, headed, done, Hole, first_item, Next, stays, opens, choice_of, tree, target, whole_in, close, fresh, Frame, wrap, assign_frame, inside_frame, reduce, State, state, joined, entered, entered_all, shut, go_on, step, walk, all_of, accepted, accept, start}
+use Rattle.p8_grammar.specs.Machine.{reading, addressing, changing, Shape, memory_word, named, parted, indexed_name, ready, trapped_name, trapped_element, headed, done, Hole, first_item, Next, stays, opens, choice_of, tree, target, whole_in, close, fresh, Frame, wrap, assign_frame, inside_frame, reduce, State, state, joined, entered, entered_all, fill_hole, go_on, step, walk, all_of, accepted, accept, start}
 use Rattle.p8_grammar.specs.Least.{height_in_head, shape_least, filled, need, least}
 use Rattle.p8_grammar.proofs.Walks.{walk_append, goes_on, steps_on, wraps}
 use Rattle.p8_grammar.proofs.FormsStand.{ShapeStands, is_using, is_coloned, is_sized, is_plain, is_named, is_element, is_plain_dot, is_dotted, is_parted, is_memory, is_register, is_ready, is_trapping, is_trapped_name, is_trapped_element, is_object_dot, is_headed, is_hashed, is_string_begun, is_string_opened, is_string_read, is_strings_read, is_constant_begun, is_look_begun, is_choices_read, is_done, HoleStands, is_parenthesis, is_plain_index, is_name_index, is_part_index, is_memory_address, is_memory_index, is_first_bit, is_last_bit, is_trapped_index, is_argument, is_next_item, is_constant, is_look_for, is_choice, is_choice_to}
@@ -141,7 +141,7 @@ record Filled (s : Setting) (hole : Hole) (e : Tree) : Type 0 where
 
 ended_by : (s s' : Setting) (hole : Hole) (e x : Tree) (sh : Shape) (k k' : List Frame) (m : Mark) (n : Next) → tree sh ≡ Some x → reduce 22 x k ≡ (e, inside_frame s hole ∷ k') → close m hole e ≡ Some n → step (state s' sh k) (token somewhere (mark m)) ≡ Some (entered s k' n)
 ended_by s s' hole e x sh k k' m n h r c =
-    mark_step s' s' sh k somewhere m hole e x n h c ∙ ap (λ q. shut m q.0 q.1) r ∙ ap (λ o. entered_all s k' o) c
+    mark_step s' s' sh k somewhere m hole e x n h c ∙ ap (λ q. fill_hole m q.0 q.1) r ∙ ap (λ o. entered_all s k' o) c
 
 -- the mark alone ends the form
 closed : (s : Setting) (hole : Hole) (e : Tree) (m : Mark) (sh' : Shape) (top : Tree) → close m hole e ≡ Some (stays sh') → tree sh' ≡ Some top → shape_least sh' ≤ filled (height e) hole → Filled s hole e

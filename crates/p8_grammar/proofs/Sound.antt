@@ -6,7 +6,7 @@ use Rattle.p8_tree.specs.declared.places.Place.{Place}
 use Rattle.p8_tree.specs.Expressions.{Tree, node, Number, Variable}
 use Rattle.p8_grammar.specs.Lexemes.{Setting, is_value, inside, behind, Access, is_written, Mark, left_parenthesis, equal, Lexeme, string, mark, infix_word, assigns, string_word, Token, token, is_dat, reserved, plain}
 use Rattle.p8_grammar.specs.Grammar.{word, upto, unquoted, Row, begin, ◌▹◌, a_character, Prefix, rank, prefix_of, infix_of, is_boolean, Variables, variable, Reads, operand, before, between, assigned, assigned_by_word, is_string_alone, Spells, nothing, a_word, a_reserved_word, an_expression, an_unquoted}
-use Rattle.p8_grammar.specs.Machine.{reading, addressing, changing, used, Shape, using, string_opened, string_read, Hole, first_item, Next, stays, opens, tree, whole_in, target, grow, close, on_item, fresh, Frame, prefix_frame, infix_frame, assign_frame, inside_frame, bar, bar_of, wrap, reduce, State, state, joined, entered, entered_all, shut, prefixed, if_fresh, operate, item_in, begun, first_word, second_word, otherwise, join, assign, after, beyond, go_on, step, walk, all_of, accepted, accept, start}
+use Rattle.p8_grammar.specs.Machine.{reading, addressing, changing, used, Shape, using, string_opened, string_read, Hole, first_item, Next, stays, opens, tree, whole_in, target, grow, close, on_item, fresh, Frame, prefix_frame, infix_frame, assign_frame, inside_frame, level_bound, level_bound_of, wrap, reduce, State, state, joined, entered, entered_all, fill_hole, prefixed, if_fresh, operate, item_in, begun, first_word, second_word, otherwise, join, assign, after, beyond, go_on, step, walk, all_of, accepted, accept, start}
 use Rattle.p8_grammar.proofs.FormsStand.{clash, inside_value, behind_value, behind_same, at_reading, ShapeStands, is_using, is_string_opened, is_string_read, HoleStands, is_parenthesis, is_plain_index, is_name_index, is_part_index, is_memory_address, is_memory_index, is_first_bit, is_last_bit, is_trapped_index, is_argument, is_next_item, is_constant, is_look_for, is_choice, is_choice_to, NextStands, whole_stands, target_stands, grow_stands, close_stands, item_stands, first_stands, behind_dat}
 use Rattle.p8_grammar.proofs.Walks.{kept as unreduced}
 use Rattle.p8_grammar.proofs.FormsRead.{value_whole}
@@ -67,7 +67,7 @@ apart_more (inside_frame s hole ∷ k) vs us h = tt
 pub data Pending (s0 : Setting) : Setting → List Frame → List Token → Type 0 where
   nothing_pending : Pending s0 s0 [] []
   -- an assignment's setting may be another before it
-  after_operator : {s t : Setting} {f : Frame} {k : List Frame} {us : List Token} (vs : List Token) (l : ℕ) → Pending s0 s k us → IsTrue (is_value t) → (bar f < 22 → s ≡ t) → (IsTrue (is_value s) → s ≡ t) → is_dat s ≡ is_dat t → l ≤ bar f → l < bar_of k → bar f ≤ 22 → IsTrue (has_word vs) → ((m : ℕ) (e : Tree) (ws : List Token) → Reads t m e ws → m < bar f → Reads s l (wrap f e) (vs ++ ws)) → Pending s0 t (f ∷ k) (us ++ vs)
+  after_operator : {s t : Setting} {f : Frame} {k : List Frame} {us : List Token} (vs : List Token) (l : ℕ) → Pending s0 s k us → IsTrue (is_value t) → (level_bound f < 22 → s ≡ t) → (IsTrue (is_value s) → s ≡ t) → is_dat s ≡ is_dat t → l ≤ level_bound f → l < level_bound_of k → level_bound f ≤ 22 → IsTrue (has_word vs) → ((m : ℕ) (e : Tree) (ws : List Token) → Reads t m e ws → m < level_bound f → Reads s l (wrap f e) (vs ++ ws)) → Pending s0 t (f ∷ k) (us ++ vs)
   in_hole : {s : Setting} {h : Hole} {row : Row} {k : List Frame} {us vs : List Token} → Pending s0 s k us → HoleStands s h row → Spells s row vs → Apart k vs → Pending s0 (inside s) (inside_frame s h ∷ k) (us ++ vs)
   in_first : {s : Setting} {p q : Place} {k : List Frame} {us vs : List Token} → Pending s0 s k us → IsTrue (is_value s) → Spells s (begin ▹ word p string_word ▹ word q (mark left_parenthesis)) vs → Apart k vs → Pending s0 (inside s) (inside_frame s (first_item p) ∷ k) (us ++ vs)
 
@@ -78,7 +78,7 @@ pub record Operand (s0 s : Setting) (m : ℕ) (e : Tree) (k : List Frame) (ts : 
   pub pending : Pending s0 s k us
   pub reads : Reads s m e vs
   pub is : ts ≡ us ++ vs
-  pub below : m < bar_of k
+  pub below : m < level_bound_of k
   pub apart : Apart k vs
 
 -- a form that has been begun, and what was begun before it
@@ -105,7 +105,7 @@ pub record Joint (s0 s : Setting) (r c : ℕ) (p : Place) (v : Variable) (k : Li
   pub w : Lexeme
   pub operator : infix_of (plain w) ≡ Some (suc r, c)
   pub boolean : IsTrue (is_boolean (suc r))
-  pub below : 21 < bar_of k
+  pub below : 21 < level_bound_of k
   pub is : ts ≡ us ++ (vs ++ token p w ∷ [])
 
 abbrev pub Stands : Setting → State → List Token → Type 0
@@ -119,7 +119,7 @@ looser (between x d h t b ra rb) m le = between x d h t (omega arith) ra rb
 looser (assigned x b w v sp r) m le = assigned x (omega arith) w v sp r
 looser (assigned_by_word x o c q b w f y v sp r) m le = assigned_by_word x o c q (omega arith) w f y v sp r
 
-positive : (k : List Frame) → 0 < bar_of k
+positive : (k : List Frame) → 0 < level_bound_of k
 positive [] = omega arith
 positive (prefix_frame o p ∷ k) = omega arith
 positive (infix_frame r c p a ∷ k) = omega arith
@@ -159,10 +159,10 @@ record Wrapped (s0 s : Setting) (m : ℕ) (f : Frame) (e : Tree) (k : List Frame
   l : ℕ
   le : l ≤ m
   to : Setting
-  same : bar f < 22 → to ≡ s
+  same : level_bound f < 22 → to ≡ s
   operand : Operand s0 to l (wrap f e) k ts
 
-wrapped : {s0 s : Setting} {f : Frame} {k : List Frame} {us : List Token} → Pending s0 s (f ∷ k) us → (l m : ℕ) (e : Tree) (vs ts : List Token) → Reads s l e vs → ts ≡ us ++ vs → l < bar f → bar f ≤ m → m ≤ 22 → Wrapped s0 s m f e k ts
+wrapped : {s0 s : Setting} {f : Frame} {k : List Frame} {us : List Token} → Pending s0 s (f ∷ k) us → (l m : ℕ) (e : Tree) (vs ts : List Token) → Reads s l e vs → ts ≡ us ++ vs → l < level_bound f → level_bound f ≤ m → m ≤ 22 → Wrapped s0 s m f e k ts
 wrapped {k = k} (after_operator {s = s'} {us = us} ws l' p d same kept alike small low h w g) l m e vs ts r is lt le most =
     record { l = l'; le = omega arith; to = s'; same = same; operand = record { us = us; vs = ws ++ vs; pending = p; reads = g l e vs r lt; is = is ∙ append_assoc us ws vs; below = low; apart = apart_by k (ws ++ vs) (word_left ws vs w) } }
 wrapped (in_hole p h sp a) l m e vs ts r is lt le most = absurd (omega arith)
@@ -176,15 +176,15 @@ pub record Reduced (s0 s : Setting) (m : ℕ) (e : Tree) (k : List Frame) (ts : 
 
 pub reduced : {s0 : Setting} (s : Setting) (m : ℕ) → m ≤ 22 → (k : List Frame) (l : ℕ) (e : Tree) (ts : List Token) → l ≤ m → Operand s0 s l e k ts → Reduced s0 s m (reduce m e k).0 (reduce m e k).1 ts
 reduced s m small [] l e ts le o = record { to = s; same = λ lt. refl; operand = record { us = o.us; vs = o.vs; pending = o.pending; reads = looser o.reads m le; is = o.is; below = omega arith; apart = tt } }
-reduced {s0 = s0} s m small (f ∷ k) l e ts le o = go (λ s' l' e' h o'. reduced s' m small k l' e' ts h o') (nat_le (bar f) m) refl
+reduced {s0 = s0} s m small (f ∷ k) l e ts le o = go (λ s' l' e' h o'. reduced s' m small k l' e' ts h o') (nat_le (level_bound f) m) refl
   where
-    go : ((s' : Setting) (l' : ℕ) (e' : Tree) → l' ≤ m → Operand s0 s' l' e' k ts → Reduced s0 s' m (reduce m e' k).0 (reduce m e' k).1 ts) → (b : Bool) → nat_le (bar f) m ≡ b → Reduced s0 s m (if b then reduce m (wrap f e) k else (e, f ∷ k)).0 (if b then reduce m (wrap f e) k else (e, f ∷ k)).1 ts
+    go : ((s' : Setting) (l' : ℕ) (e' : Tree) → l' ≤ m → Operand s0 s' l' e' k ts → Reduced s0 s' m (reduce m e' k).0 (reduce m e' k).1 ts) → (b : Bool) → nat_le (level_bound f) m ≡ b → Reduced s0 s m (if b then reduce m (wrap f e) k else (e, f ∷ k)).0 (if b then reduce m (wrap f e) k else (e, f ∷ k)).1 ts
     go ih true h =
-        let at : bar f ≤ m = leb-true (bar f) m h in
+        let at : level_bound f ≤ m = leb-true (level_bound f) m h in
         let w = wrapped o.pending l m e o.vs ts o.reads o.is o.below at small in
         let r = ih w.to w.l (wrap f e) w.le w.operand in
         record { to = r.to; same = λ lt. r.same lt ∙ w.same (omega (arith, at, lt)); operand = r.operand }
-    go ih false h = record { to = s; same = λ lt. refl; operand = record { us = o.us; vs = o.vs; pending = o.pending; reads = looser o.reads m le; is = o.is; below = leb-false (bar f) m h; apart = o.apart } }
+    go ih false h = record { to = s; same = λ lt. refl; operand = record { us = o.us; vs = o.vs; pending = o.pending; reads = looser o.reads m le; is = o.is; below = leb-false (level_bound f) m h; apart = o.apart } }
 
 -- nothing is begun before an action
 no_frames : {s0 s : Setting} {k : List Frame} {us : List Token} → Pending s0 s k us → IsTrue (not (is_value s)) → k ≡ []
@@ -218,7 +218,7 @@ grown s0 s sh k ts p x n st b h is =
       apart = apart_more k b.vs (token p x ∷ []) b.apart;
     }))
 
-at_most : {s0 s : Setting} {k : List Frame} {us : List Token} → Pending s0 s k us → bar_of k ≤ 23
+at_most : {s0 s : Setting} {k : List Frame} {us : List Token} → Pending s0 s k us → level_bound_of k ≤ 23
 at_most nothing_pending = omega arith
 at_most (after_operator vs l p d same kept alike small low h w g) = omega arith
 at_most (in_hole p h sp a) = omega arith
@@ -227,13 +227,13 @@ at_most (in_first p d sp a) = omega arith
 -- a prefix operator
 prefixed_stands : (s0 s : Setting) (k : List Frame) (ts us : List Token) (p : Place) (x : Lexeme) (o : Option Prefix) (st : State) → Pending s0 s k us → ts ≡ us → prefix_of (plain x) ≡ o → prefixed s o p k ≡ Some st → Stands s0 st (ts ++ token p x ∷ [])
 prefixed_stands s0 s k ts us p x None st pend is h e = absurd cc
-prefixed_stands s0 s k ts us p x (Some o) st pend is h e = go (is_value s && nat_lt (2 * rank o + 1) (bar_of k)) refl e
+prefixed_stands s0 s k ts us p x (Some o) st pend is h e = go (is_value s && nat_lt (2 * rank o + 1) (level_bound_of k)) refl e
   where
-    go : (b : Bool) → (is_value s && nat_lt (2 * rank o + 1) (bar_of k)) ≡ b → (if b then Some (state s fresh (prefix_frame o p ∷ k)) else None) ≡ Some st → Stands s0 st (ts ++ token p x ∷ [])
+    go : (b : Bool) → (is_value s && nat_lt (2 * rank o + 1) (level_bound_of k)) ≡ b → (if b then Some (state s fresh (prefix_frame o p ∷ k)) else None) ≡ Some st → Stands s0 st (ts ++ token p x ∷ [])
     go false b e = absurd cc
     go true b e =
-        let low : 2 * rank o + 1 < bar_of k = ltb-true _ _ (second_true (is_value s) (nat_lt (2 * rank o + 1) (bar_of k)) b) in
-        let d : IsTrue (is_value s) = first_true (is_value s) (nat_lt (2 * rank o + 1) (bar_of k)) b in
+        let low : 2 * rank o + 1 < level_bound_of k = ltb-true _ _ (second_true (is_value s) (nat_lt (2 * rank o + 1) (level_bound_of k)) b) in
+        let d : IsTrue (is_value s) = first_true (is_value s) (nat_lt (2 * rank o + 1) (level_bound_of k)) b in
         let most = at_most pend in
         arrived s0 _ _ _ e (subst (λ l. Stands s0 (state s fresh (prefix_frame o p ∷ k)) (l ++ token p x ∷ [])) (sym is) (fresh_stands s0 s (prefix_frame o p ∷ k) (us ++ token p x ∷ []) tt
         (after_operator {f = prefix_frame o p} (token p x ∷ []) (2 * rank o + 1) pend d (λ lt. refl) (λ v. refl) refl (omega arith) low (omega (arith, low, most)) (prefix_has_word p x o h) (λ m e ws r lt. before d h (omega arith) (looser r (2 * rank o + 1) (omega arith))))))
@@ -273,9 +273,9 @@ operate_stands s0 s k e ts p x (Some (suc r, c)) st o h is = go (is_value s && n
 -- an assignment
 assign_stands : (s0 s : Setting) (sh : Shape) (k : List Frame) (ts : List Token) (p : Place) (o : Option ℕ) (st : State) → Begun s0 s (stays sh) k ts → (t : Option Variable) → target sh ≡ t → assign s t o p k ≡ Some st → Stands s0 st (ts ++ token p (assigns o) ∷ [])
 assign_stands s0 s sh k ts p o st b None h e = absurd cc
-assign_stands s0 s sh k ts p o st b (Some v) h e = go (nat_lt 21 (bar_of k)) refl e
+assign_stands s0 s sh k ts p o st b (Some v) h e = go (nat_lt 21 (level_bound_of k)) refl e
   where
-    go : (c : Bool) → nat_lt 21 (bar_of k) ≡ c → (if c then Some (state (behind s) fresh (assign_frame o p v ∷ k)) else None) ≡ Some st → Stands s0 st (ts ++ token p (assigns o) ∷ [])
+    go : (c : Bool) → nat_lt 21 (level_bound_of k) ≡ c → (if c then Some (state (behind s) fresh (assign_frame o p v ∷ k)) else None) ≡ Some st → Stands s0 st (ts ++ token p (assigns o) ∷ [])
     go false c e = absurd cc
     go true c e =
         let w = target_stands b.stands v h in
@@ -289,9 +289,9 @@ join_stands : (s0 s : Setting) (sh : Shape) (k : List Frame) (e : Tree) (ts : Li
 join_stands s0 s sh k e ts p x o st b h f None t is = operate_stands s0 s k e ts p x o st (λ d. whole_operand s0 s sh k ts e b (value_whole s sh d ∙ h)) f is
 join_stands s0 s sh k e ts p x None st b h f (Some v) t is = absurd cc
 join_stands s0 s sh k e ts p x (Some (zero, c)) st b h f (Some v) t is = absurd cc
-join_stands s0 s sh k e ts p x (Some (suc r, c)) st b h f (Some v) t is = go (is_boolean (suc r) && nat_lt 21 (bar_of k)) refl is
+join_stands s0 s sh k e ts p x (Some (suc r, c)) st b h f (Some v) t is = go (is_boolean (suc r) && nat_lt 21 (level_bound_of k)) refl is
   where
-    go : (b' : Bool) → (is_boolean (suc r) && nat_lt 21 (bar_of k)) ≡ b' → (if b' then Some (joined s r c p v k) else operate s (Some (suc r, c)) p e k) ≡ Some st → Stands s0 st (ts ++ token p x ∷ [])
+    go : (b' : Bool) → (is_boolean (suc r) && nat_lt 21 (level_bound_of k)) ≡ b' → (if b' then Some (joined s r c p v k) else operate s (Some (suc r, c)) p e k) ≡ Some st → Stands s0 st (ts ++ token p x ∷ [])
     go false y is = operate_stands s0 s k e ts p x (Some (suc r, c)) st (λ d. whole_operand s0 s sh k ts e b (value_whole s sh d ∙ h)) f is
     go true y is =
         let w = target_stands b.stands v t in
@@ -306,8 +306,8 @@ join_stands s0 s sh k e ts p x (Some (suc r, c)) st b h f (Some v) t is = go (is
           spells = b.spells;
           w = x;
           operator = f;
-          boolean = first_true (is_boolean (suc r)) (nat_lt 21 (bar_of k)) y;
-          below = ltb-true 21 (bar_of k) (second_true (is_boolean (suc r)) (nat_lt 21 (bar_of k)) y);
+          boolean = first_true (is_boolean (suc r)) (nat_lt 21 (level_bound_of k)) y;
+          below = ltb-true 21 (level_bound_of k) (second_true (is_boolean (suc r)) (nat_lt 21 (level_bound_of k)) y);
           is = ap (λ l. l ++ token p x ∷ []) b.is ∙ append_assoc b.us b.vs (token p x ∷ []);
         })
 
@@ -333,12 +333,12 @@ joint_assigns s0 s r c p v k ts q b =
     (λ m e ws rd lt. subst (Reads s 21 _) (sym (append_assoc b.vs (w ∷ z ∷ []) ws)) (assigned_by_word b.x b.w (suc r) q (omega arith) b.written b.operator b.boolean b.stands b.spells (looser rd 21 (omega arith))))))
 
 -- a mark that ends an expression
-shut_stands : (s0 : Setting) (m : Mark) (p : Place) (k : List Frame) (s : Setting) (e : Tree) (ts : List Token) (st : State) → Operand s0 s 22 e k ts → shut m e k ≡ Some st → Stands s0 st (ts ++ token p (mark m) ∷ [])
-shut_stands s0 m p [] s e ts st o h = absurd cc
-shut_stands s0 m p (prefix_frame x q ∷ k) s e ts st o h = absurd cc
-shut_stands s0 m p (infix_frame r c q a ∷ k) s e ts st o h = absurd cc
-shut_stands s0 m p (assign_frame x q v ∷ k) s e ts st o h = absurd cc
-shut_stands s0 m p (inside_frame s' hole ∷ k) s e ts st o h = go o.pending o.reads o.is o.apart (close m hole e) refl h
+fill_hole_stands : (s0 : Setting) (m : Mark) (p : Place) (k : List Frame) (s : Setting) (e : Tree) (ts : List Token) (st : State) → Operand s0 s 22 e k ts → fill_hole m e k ≡ Some st → Stands s0 st (ts ++ token p (mark m) ∷ [])
+fill_hole_stands s0 m p [] s e ts st o h = absurd cc
+fill_hole_stands s0 m p (prefix_frame x q ∷ k) s e ts st o h = absurd cc
+fill_hole_stands s0 m p (infix_frame r c q a ∷ k) s e ts st o h = absurd cc
+fill_hole_stands s0 m p (assign_frame x q v ∷ k) s e ts st o h = absurd cc
+fill_hole_stands s0 m p (inside_frame s' hole ∷ k) s e ts st o h = go o.pending o.reads o.is o.apart (close m hole e) refl h
   where
     go : {hole : Hole} {s : Setting} {us : List Token} → Pending s0 s (inside_frame s' hole ∷ k) us → Reads s 22 e o.vs → ts ≡ us ++ o.vs → Apart (inside_frame s' hole ∷ k) o.vs → (n : Option Next) → close m hole e ≡ n → entered_all s' k n ≡ Some st → Stands s0 st (ts ++ token p (mark m) ∷ [])
     go pend r is a None eq h = absurd cc
@@ -367,12 +367,12 @@ shut_stands s0 m p (inside_frame s' hole ∷ k) s e ts st o h = go o.pending o.r
         }))
 
 -- a mark after a whole form: an action is in no brackets
-marked_stands : (s0 s : Setting) (sh : Shape) (k : List Frame) (e : Tree) (ts : List Token) (p : Place) (m : Mark) (st : State) → Begun s0 s (stays sh) k ts → tree sh ≡ Some e → shut m (reduce 22 e k).0 (reduce 22 e k).1 ≡ Some st → Stands s0 st (ts ++ token p (mark m) ∷ [])
+marked_stands : (s0 s : Setting) (sh : Shape) (k : List Frame) (e : Tree) (ts : List Token) (p : Place) (m : Mark) (st : State) → Begun s0 s (stays sh) k ts → tree sh ≡ Some e → fill_hole m (reduce 22 e k).0 (reduce 22 e k).1 ≡ Some st → Stands s0 st (ts ++ token p (mark m) ∷ [])
 marked_stands s0 s sh k e ts p m st b t h = go (is_value s) refl
   where
     go : (c : Bool) → is_value s ≡ c → Stands s0 st (ts ++ token p (mark m) ∷ [])
-    go true d = let r = reduced s 22 (omega arith) k 0 e ts (omega arith) (whole_operand s0 s sh k ts e b (value_whole s sh d ∙ t)) in shut_stands s0 m p (reduce 22 e k).1 r.to (reduce 22 e k).0 ts st r.operand h
-    go false d = let none : shut m (reduce 22 e []).0 (reduce 22 e []).1 ≡ Some st = subst (λ k. shut m (reduce 22 e k).0 (reduce 22 e k).1 ≡ Some st) (no_frames b.pending (ap not d)) h in absurd cc
+    go true d = let r = reduced s 22 (omega arith) k 0 e ts (omega arith) (whole_operand s0 s sh k ts e b (value_whole s sh d ∙ t)) in fill_hole_stands s0 m p (reduce 22 e k).1 r.to (reduce 22 e k).0 ts st r.operand h
+    go false d = let none : fill_hole m (reduce 22 e []).0 (reduce 22 e []).1 ≡ Some st = subst (λ k. fill_hole m (reduce 22 e k).0 (reduce 22 e k).1 ≡ Some st) (no_frames b.pending (ap not d)) h in absurd cc
 
 after_stands : (s0 s : Setting) (sh : Shape) (k : List Frame) (e : Tree) (ts : List Token) (p : Place) (x : Lexeme) (st : State) → Begun s0 s (stays sh) k ts → tree sh ≡ Some e → after s sh e k p x ≡ Some st → Stands s0 st (ts ++ token p x ∷ [])
 after_stands s0 s sh k e ts p (mark m) st b t h = marked_stands s0 s sh k e ts p m st b t h

@@ -7,7 +7,7 @@ use Rattle.p8_tree.specs.declared.places.Place.{Place}
 use Rattle.p8_tree.specs.Expressions.{Tree, node, Number, Variable}
 use Rattle.p8_grammar.specs.Lexemes.{Setting, is_value, inside, Mark, Lexeme, string, mark, prefix_word, infix_word, sign, assigns, object_address, other, token, reserved, plain, is_free}
 use Rattle.p8_grammar.specs.Grammar.{Prefix, rank, at_object, unary, prefix_of, effect_of, infix_of}
-use Rattle.p8_grammar.specs.Machine.{reading, addressing, changing, Shape, using, string_opened, string_read, Hole, first_item, next_item, choice_of, Next, stays, opens, on_character, on_string, on_item, item_in, otherwise, infix_frame, assign_frame, inside_frame, is_text, is_unopened, is_ordinary, tree, whole_in, if_action, altering, begins, entered_all, on_prefix, prefixed, target, grow, on_mark, fresh, Frame, prefix_frame, bar, bar_of, wrap, reduce, State, state, entered, shut, if_fresh, operate, join, assign, beyond, go_on, step, all_of, accepted, accept, is_coloned, labelled, coloned}
+use Rattle.p8_grammar.specs.Machine.{reading, addressing, changing, Shape, using, string_opened, string_read, Hole, first_item, next_item, choice_of, Next, stays, opens, on_character, on_string, on_item, item_in, otherwise, infix_frame, assign_frame, inside_frame, is_text, is_unopened, is_ordinary, tree, whole_in, if_action, altering, begins, entered_all, on_prefix, prefixed, target, grow, on_mark, fresh, Frame, prefix_frame, level_bound, level_bound_of, wrap, reduce, State, state, entered, fill_hole, if_fresh, operate, join, assign, beyond, go_on, step, all_of, accepted, accept, is_coloned, labelled, coloned}
 use Rattle.p8_grammar.specs.declared.lexemes.Term as term
 use Rattle.p8_grammar.specs.declared.lexemes.Term.TheVariants as term_case
 use Rattle.p8_grammar.specs.declared.taking.Taken as taken
@@ -57,7 +57,7 @@ reserved_other_none n s (string_opened q) k p = refl
 reserved_other_none n s sh k p = unopened_none s sh k p (reserved n other) refl refl refl refl
 
 dead : (s : Setting) (o : Prefix) (p : Place) (k : List Frame) → is_value s ≡ false → prefixed s (Some o) p k ≡ None
-dead s o p k d = ap (λ b. if b && nat_lt (2 * rank o + 1) (bar_of k) then Some (state s fresh (prefix_frame o p ∷ k)) else None) d
+dead s o p k d = ap (λ b. if b && nat_lt (2 * rank o + 1) (level_bound_of k) then Some (state s fresh (prefix_frame o p ∷ k)) else None) d
 
 fresh_no_tree : (s : Setting) (sh : Shape) (o : Option Prefix) (p : Place) (k : List Frame) (y : Tree) → tree sh ≡ Some y → if_fresh s sh o p k ≡ None
 fresh_no_tree s (using u) o p k y e = absurd cc
@@ -141,10 +141,10 @@ assigns_step s (string_opened q) k p o w = absurd cc
 assigns_step s (string_read q r t) k p o w = absurd cc
 assigns_step s sh k p o w = refl
 
-pub mark_step_none : (s : Setting) (sh : Shape) (k : List Frame) (p : Place) (m : Mark) → IsTrue (is_unopened sh) → on_mark s p m sh ≡ None → step (state s sh k) (token p (mark m)) ≡ option_and_then (λ e. shut m (reduce 22 e k).0 (reduce 22 e k).1) (tree sh)
+pub mark_step_none : (s : Setting) (sh : Shape) (k : List Frame) (p : Place) (m : Mark) → IsTrue (is_unopened sh) → on_mark s p m sh ≡ None → step (state s sh k) (token p (mark m)) ≡ option_and_then (λ e. fill_hole m (reduce 22 e k).0 (reduce 22 e k).1) (tree sh)
 mark_step_none s sh k p m w h = ap (λ o. go_on o s sh k p (mark m)) h ∙ go (tree sh)
   where
-    go : (o : Option Tree) → beyond o s sh k p (mark m) ≡ option_and_then (λ e. shut m (reduce 22 e k).0 (reduce 22 e k).1) o
+    go : (o : Option Tree) → beyond o s sh k p (mark m) ≡ option_and_then (λ e. fill_hole m (reduce 22 e k).0 (reduce 22 e k).1) o
     go None = unopened_none s sh k p (mark m) w refl refl refl
     go (Some e) = refl
 
@@ -272,9 +272,9 @@ reserved_term_step n s sh k p t free w h =
 pub takes_too : (r : Result taken.Taken AllocError) (o o' : Option State) (st st' : State) (k : List Frame) → o ≡ o' → st ≡ st' → IfOk r (λ t. Takes o st t k) → IfOk r (λ t. Takes o' st' t k)
 takes_too r o o' st st' k eo es h = subst (λ st. IfOk r (λ t. Takes o' st t k)) es (subst (λ o. IfOk r (λ t. Takes o st t k)) eo h)
 
-pub reduce-pop : (m : ℕ) (ks gs : List Frame) (f : Frame) (e e' : Tree) (b : ℕ) → ks ≡ f ∷ gs → b ≡ bar_of ks → b ≤ m → e' ≡ wrap f e → reduce m e ks ≡ reduce m e' gs
+pub reduce-pop : (m : ℕ) (ks gs : List Frame) (f : Frame) (e e' : Tree) (b : ℕ) → ks ≡ f ∷ gs → b ≡ level_bound_of ks → b ≤ m → e' ≡ wrap f e → reduce m e ks ≡ reduce m e' gs
 reduce-pop m ks gs f e e' b same bar_is le wrap_is =
-    let bars : bar_of ks ≡ bar f = ap bar_of same in
+    let bars : level_bound_of ks ≡ level_bound f = ap level_bound_of same in
     ap (λ l. reduce m e l) same ∙ wraps m e f gs (omega arith) ∙ ap (λ e. reduce m e gs) (sym wrap_is)
 
 -- a form that an expression comes next in
@@ -282,10 +282,10 @@ pub opened_step : (s s' : Setting) (sh : Shape) (k k' : List Frame) (p : Place) 
 opened_step s s' sh k k' p x h e ek es = grown_step s sh k p x (opens h) e ∙ ap (λ k. Some (state (inside s) fresh k)) (sym ek) ∙ ap (λ s. Some (state s fresh k')) (sym es)
 
 -- a mark that doesn't belong to the form
-pub mark_same : (s : Setting) (sh sh' : Shape) (k kk : List Frame) (p : Place) (m : Mark) (r : Result taken.Taken AllocError) → IsTrue (is_unopened sh) → on_mark s p m sh ≡ None → sh' ≡ sh → IfOk r (λ t. Takes (option_and_then (λ e. shut m (reduce 22 e k).0 (reduce 22 e k).1) (tree sh')) (state s sh' k) t kk) → IfOk r (λ t. Takes (step (state s sh k) (token p (mark m))) (state s sh k) t kk)
+pub mark_same : (s : Setting) (sh sh' : Shape) (k kk : List Frame) (p : Place) (m : Mark) (r : Result taken.Taken AllocError) → IsTrue (is_unopened sh) → on_mark s p m sh ≡ None → sh' ≡ sh → IfOk r (λ t. Takes (option_and_then (λ e. fill_hole m (reduce 22 e k).0 (reduce 22 e k).1) (tree sh')) (state s sh' k) t kk) → IfOk r (λ t. Takes (step (state s sh k) (token p (mark m))) (state s sh k) t kk)
 mark_same s sh sh' k kk p m r w none same h =
-    takes_too r (option_and_then (λ e. shut m (reduce 22 e k).0 (reduce 22 e k).1) (tree sh')) _ (state s sh' k) (state s sh k) kk
-    (ap (λ x. option_and_then (λ e. shut m (reduce 22 e k).0 (reduce 22 e k).1) (tree x)) same ∙ sym (mark_step_none s sh k p m w none))
+    takes_too r (option_and_then (λ e. fill_hole m (reduce 22 e k).0 (reduce 22 e k).1) (tree sh')) _ (state s sh' k) (state s sh k) kk
+    (ap (λ x. option_and_then (λ e. fill_hole m (reduce 22 e k).0 (reduce 22 e k).1) (tree x)) same ∙ sym (mark_step_none s sh k p m w none))
     (ap (λ x. state s x k) same) h
 
 -- a word that doesn't belong to the form

@@ -7,7 +7,7 @@ use Rattle.p8_tree.specs.Expressions.{Tree, node, Number, Here, Variable, Memory
 use Rattle.p8_grammar.specs.Lexemes.{Setting, is_value, inside, behind, allows_index, is_dat, is_in, has_bits, Access, is_written, Mark, left_parenthesis, right_parenthesis, left_bracket, right_bracket, comma, colon, dot, dot_dot, hash, backslash, equal, Lexeme, number, name, method_result, string, mark, prefix_word, infix_word, sign, assigns, changes, address, object_address, size, register, here, string_word, constant_word, look, value, built_in, command, other, Token, token, reserved, plain, is_free}
 use Rattle.p8_grammar.specs.Grammar.{with_characters, Head, calls, built, applied, Prefix, at_object, unary, rank, with_prefix, prefix_of, effect_of, infix_of, is_boolean}
 use Rattle.p8_grammar.specs.Heights.{height, height_in_variable, height_of_trees, height_of_items, IsTooHigh}
-use Rattle.p8_grammar.specs.Machine.{Use, reading, addressing, changing, used, takes, Shape, using, coloned, sized, named, indexed_name, dotted, parted, memory_word, register_word, ready, trapping, trapped_name, trapped_element, object_dot, headed, hashed, string_begun, string_opened, string_read, strings_read, constant_begun, look_begun, choices_read, done, Hole, parenthesis, name_index, part_index, memory_address, memory_index, first_bit, last_bit, trapped_index, argument_of, first_item, next_item, constant_of, look_for, choice_of, choice_to, Next, stays, opens, only_if, tree, whole_in, if_value, if_action, altering, if_reading, target, begins, on_name, on_result, on_character, on_string, on_size, on_register, changed, on_change, on_parenthesis, on_bracket, on_dot, on_hash, on_colon, on_close, on_comma, on_mark, grow, at_right_bracket, at_right_parenthesis, at_comma, at_colon, at_range, close, on_item, fresh, Frame, prefix_frame, infix_frame, assign_frame, inside_frame, bar, bar_of, wrap, reduce, State, state, joined, entered, entered_all, shut, prefixed, if_fresh, operate, item_in, begun, first_word, second_word, otherwise, join, assign, after, beyond, go_on, step, walk, all_of, accepted, accept, start, labelled}
+use Rattle.p8_grammar.specs.Machine.{Use, reading, addressing, changing, used, takes, Shape, using, coloned, sized, named, indexed_name, dotted, parted, memory_word, register_word, ready, trapping, trapped_name, trapped_element, object_dot, headed, hashed, string_begun, string_opened, string_read, strings_read, constant_begun, look_begun, choices_read, done, Hole, parenthesis, name_index, part_index, memory_address, memory_index, first_bit, last_bit, trapped_index, argument_of, first_item, next_item, constant_of, look_for, choice_of, choice_to, Next, stays, opens, only_if, tree, whole_in, if_value, if_action, altering, if_reading, target, begins, on_name, on_result, on_character, on_string, on_size, on_register, changed, on_change, on_parenthesis, on_bracket, on_dot, on_hash, on_colon, on_close, on_comma, on_mark, grow, at_right_bracket, at_right_parenthesis, at_comma, at_colon, at_range, close, on_item, fresh, Frame, prefix_frame, infix_frame, assign_frame, inside_frame, level_bound, level_bound_of, wrap, reduce, State, state, joined, entered, entered_all, fill_hole, prefixed, if_fresh, operate, item_in, begun, first_word, second_word, otherwise, join, assign, after, beyond, go_on, step, walk, all_of, accepted, accept, start, labelled}
 use Rattle.p8_grammar.specs.Least.{height_in_head, shape_least, filled, need, next_least, least}
 use Rattle.p8_grammar.proofs.Walks.{goes_on}
 use Rattle.p8_grammar.proofs.Joins.{second_true}
@@ -347,7 +347,7 @@ prefix_height : (o : Prefix) (p : Place) (e : Tree) → height (node p (with_pre
 prefix_height at_object p e = refl
 prefix_height (unary r k) p e = refl
 
-pub need_wrap : (f : Frame) (e : Tree) (k : List Frame) → bar f ≤ 22 → need (height (wrap f e)) k ≡ need (height e) (f ∷ k)
+pub need_wrap : (f : Frame) (e : Tree) (k : List Frame) → level_bound f ≤ 22 → need (height (wrap f e)) k ≡ need (height e) (f ∷ k)
 need_wrap (prefix_frame o p) e k le = ap (λ h. need h k) (prefix_height o p e)
 need_wrap (infix_frame r c p a) e k le = refl
 need_wrap (assign_frame o p v) e k le = refl
@@ -355,11 +355,11 @@ need_wrap (inside_frame s hole) e k le = absurd (omega arith)
 
 pub need_reduce : (m : ℕ) → m ≤ 22 → (k : List Frame) (e : Tree) → need (height (reduce m e k).0) (reduce m e k).1 ≡ need (height e) k
 need_reduce m small [] e = refl
-need_reduce m small (f ∷ k) e = go (λ e'. need_reduce m small k e') (nat_le (bar f) m) refl
+need_reduce m small (f ∷ k) e = go (λ e'. need_reduce m small k e') (nat_le (level_bound f) m) refl
   where
-    go : ((e' : Tree) → need (height (reduce m e' k).0) (reduce m e' k).1 ≡ need (height e') k) → (b : Bool) → nat_le (bar f) m ≡ b → need (height (if b then reduce m (wrap f e) k else (e, f ∷ k)).0) (if b then reduce m (wrap f e) k else (e, f ∷ k)).1 ≡ need (height e) (f ∷ k)
+    go : ((e' : Tree) → need (height (reduce m e' k).0) (reduce m e' k).1 ≡ need (height e') k) → (b : Bool) → nat_le (level_bound f) m ≡ b → need (height (if b then reduce m (wrap f e) k else (e, f ∷ k)).0) (if b then reduce m (wrap f e) k else (e, f ∷ k)).1 ≡ need (height e) (f ∷ k)
     go ih false h = refl
-    go ih true h = let le : bar f ≤ m = leb-true (bar f) m h in ih (wrap f e) ∙ need_wrap f e k (omega arith)
+    go ih true h = let le : level_bound f ≤ m = leb-true (level_bound f) m h in ih (wrap f e) ∙ need_wrap f e k (omega arith)
 
 pub entered_least : (s : Setting) (k : List Frame) (n : Next) → least (entered s k n) ≡ need (next_least n) k
 entered_least s k (stays sh) = refl
@@ -370,23 +370,23 @@ abbrev LeastFrom : ℕ → Option State → Type 0
 LeastFrom l None = Unit {0}
 LeastFrom l (Some st) = l ≤ least st
 
-shut_least : (m : Mark) (e : Tree) (k : List Frame) → LeastFrom (need (height e) k) (shut m e k)
-shut_least m e [] = tt
-shut_least m e (prefix_frame o p ∷ k) = tt
-shut_least m e (infix_frame r c p a ∷ k) = tt
-shut_least m e (assign_frame o p v ∷ k) = tt
-shut_least m e (inside_frame s hole ∷ k) = go (close m hole e) (close_least m hole e)
+fill_hole_least : (m : Mark) (e : Tree) (k : List Frame) → LeastFrom (need (height e) k) (fill_hole m e k)
+fill_hole_least m e [] = tt
+fill_hole_least m e (prefix_frame o p ∷ k) = tt
+fill_hole_least m e (infix_frame r c p a ∷ k) = tt
+fill_hole_least m e (assign_frame o p v ∷ k) = tt
+fill_hole_least m e (inside_frame s hole ∷ k) = go (close m hole e) (close_least m hole e)
   where
     go : (o : Option Next) → AtLeast (filled (height e) hole) o → LeastFrom (need (filled (height e) hole) k) (entered_all s k o)
     go None a = tt
     go (Some n) a = omega (arith, entered_least s k n, need_le k (filled (height e) hole) (next_least n) a)
 
-mark_from : (m : Mark) (e : Tree) (k : List Frame) → LeastFrom (need (height e) k) (shut m (reduce 22 e k).0 (reduce 22 e k).1)
-mark_from m e k = subst (λ l. LeastFrom l (shut m (reduce 22 e k).0 (reduce 22 e k).1)) (need_reduce 22 (omega arith) k e) (shut_least m (reduce 22 e k).0 (reduce 22 e k).1)
+mark_from : (m : Mark) (e : Tree) (k : List Frame) → LeastFrom (need (height e) k) (fill_hole m (reduce 22 e k).0 (reduce 22 e k).1)
+mark_from m e k = subst (λ l. LeastFrom l (fill_hole m (reduce 22 e k).0 (reduce 22 e k).1)) (need_reduce 22 (omega arith) k e) (fill_hole_least m (reduce 22 e k).0 (reduce 22 e k).1)
 
 prefixed_least : (s : Setting) (o : Option Prefix) (p : Place) (k : List Frame) → LeastFrom (need 1 k) (prefixed s o p k)
 prefixed_least s None p k = tt
-prefixed_least s (Some o) p k = go (is_value s && nat_lt (2 * rank o + 1) (bar_of k))
+prefixed_least s (Some o) p k = go (is_value s && nat_lt (2 * rank o + 1) (level_bound_of k))
   where
     go : (b : Bool) → LeastFrom (need 1 k) (if b then Some (state s fresh (prefix_frame o p ∷ k)) else None)
     go false = tt
@@ -419,7 +419,7 @@ assign_least s sh o p k = go (target sh) refl
 
     go : (t : Option Variable) → target sh ≡ t → LeastFrom (need (shape_least sh) k) (assign s t o p k)
     go None h = tt
-    go (Some v) h = step_on v (nat_lt 21 (bar_of k)) h
+    go (Some v) h = step_on v (nat_lt 21 (level_bound_of k)) h
 
 join_least : (s : Setting) (sh : Shape) (e : Tree) (k : List Frame) (p : Place) (o : Option (ℕ × ℕ)) → tree sh ≡ Some e → LeastFrom (need (shape_least sh) k) (join s (target sh) o p e k)
 join_least s sh e k p None h = none (target sh)
@@ -439,7 +439,7 @@ join_least s sh e k p (Some (r, c)) h = go (target sh) refl r
     go : (t : Option Variable) → target sh ≡ t → (r : ℕ) → LeastFrom (need (shape_least sh) k) (join s t (Some (r, c)) p e k)
     go None t r = operates r
     go (Some v) t zero = tt
-    go (Some v) t (suc r) = by_test v r (is_boolean (suc r) && nat_lt 21 (bar_of k)) t
+    go (Some v) t (suc r) = by_test v r (is_boolean (suc r) && nat_lt 21 (level_bound_of k)) t
 
 after_least : (s : Setting) (sh : Shape) (e : Tree) (k : List Frame) (p : Place) (x : Lexeme) → tree sh ≡ Some e → LeastFrom (need (shape_least sh) k) (after s sh e k p x)
 after_least s sh e k p (mark m) h = subst (λ l. LeastFrom (need l k) (after s sh e k p (mark m))) (sym (tree_least sh e h)) (mark_from m e k)

@@ -4,7 +4,7 @@ use Rattle.std.specs.Prelude.{option_and_then, IsTrue, ◌&&◌}
 use Rattle.std.proofs.lemmas.Bool.{lt-leb}
 use Rattle.p8_tree.specs.Expressions.{Tree}
 use Rattle.p8_grammar.specs.Lexemes.{Token}
-use Rattle.p8_grammar.specs.Machine.{Next, only_if, Frame, bar, bar_of, wrap, reduce, State, step, walk}
+use Rattle.p8_grammar.specs.Machine.{Next, only_if, Frame, level_bound, level_bound_of, wrap, reduce, State, step, walk}
 
 -- a walk over two pieces
 pub walk_append : (st : State) (ts us : List Token) → walk st (ts ++ us) ≡ option_and_then (λ x. walk x us) (walk st ts)
@@ -25,12 +25,12 @@ pub steps_on : (st st' : State) (t : Token) (ts : List Token) → step st t ≡ 
 steps_on st st' t ts e = ap (λ o. option_and_then (λ x. walk x ts) o) e
 
 -- nothing is ended where the last frame waits for a looser operator
-pub kept : (m : ℕ) (e : Tree) (k : List Frame) → m < bar_of k → reduce m e k ≡ (e, k)
+pub kept : (m : ℕ) (e : Tree) (k : List Frame) → m < level_bound_of k → reduce m e k ≡ (e, k)
 kept m e [] lt = refl
-kept m e (f ∷ k) lt = rw (lt-leb (bar f) m lt) refl
+kept m e (f ∷ k) lt = rw (lt-leb (level_bound f) m lt) refl
 
-pub wraps : (m : ℕ) (e : Tree) (f : Frame) (k : List Frame) → bar f ≤ m → reduce m e (f ∷ k) ≡ reduce m (wrap f e) k
-wraps m e f k le = rw (le-leb (bar f) m le) refl
+pub wraps : (m : ℕ) (e : Tree) (f : Frame) (k : List Frame) → level_bound f ≤ m → reduce m e (f ∷ k) ≡ reduce m (wrap f e) k
+wraps m e f k le = rw (le-leb (level_bound f) m le) refl
 
 pub only : (b : Bool) (n : Next) → IsTrue b → only_if b n ≡ Some n
 only true n h = refl

@@ -1,7 +1,7 @@
 -- internal: the marks that may end the expression in the innermost form, and the strings that may stand in its place.
 use Rattle.std.specs.Prelude.{Bool, true, false, nat_le, if◌then◌else◌, List, [], ◌∷◌}
 use Rattle.p8_grammar.specs.Lexemes.{Mark, right_parenthesis, right_bracket, comma, colon, dot_dot}
-use Rattle.p8_grammar.specs.Machine.{Hole, parenthesis, first_bit, argument_of, first_item, next_item, constant_of, look_for, choice_of, choice_to, Frame, inside_frame, bar}
+use Rattle.p8_grammar.specs.Machine.{Hole, parenthesis, first_bit, argument_of, first_item, next_item, constant_of, look_for, choice_of, choice_to, Frame, inside_frame, level_bound}
 use Rattle.p8_grammar.specs.declared.stack.Ends.{Ends}
 use Rattle.p8_grammar.specs.declared.stack.Ends.TheVariants as ends
 
@@ -56,7 +56,7 @@ ends_of_frame _ = ends.None
 
 abbrev pub ends_of : List Frame → Ends
 ends_of [] = ends.None
-ends_of (f ∷ k) = if nat_le (bar f) 22 then ends_of k else ends_of_frame f
+ends_of (f ∷ k) = if nat_le (level_bound f) 22 then ends_of k else ends_of_frame f
 
 -- whether a string of several characters may stand in place of the expression that comes next
 abbrev pub takes_text : Frame → Bool

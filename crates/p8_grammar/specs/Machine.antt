@@ -358,15 +358,15 @@ pub data Frame : Type 0 where
   inside_frame : Setting → Hole → Frame
 
 -- the operand after this is of a lower level
-abbrev pub bar : Frame → ℕ
-bar (prefix_frame o p) = 2 * rank o + 2
-bar (infix_frame r k p a) = 2 * suc r
-bar (assign_frame o p v) = 22
-bar (inside_frame s h) = 23
+abbrev pub level_bound : Frame → ℕ
+level_bound (prefix_frame o p) = 2 * rank o + 2
+level_bound (infix_frame r k p a) = 2 * suc r
+level_bound (assign_frame o p v) = 22
+level_bound (inside_frame s h) = 23
 
-abbrev pub bar_of : List Frame → ℕ
-bar_of [] = 23
-bar_of (f ∷ k) = bar f
+abbrev pub level_bound_of : List Frame → ℕ
+level_bound_of [] = 23
+level_bound_of (f ∷ k) = level_bound f
 
 abbrev pub wrap : Frame → Tree → Tree
 wrap (prefix_frame o p) e = node p (with_prefix o e)
@@ -376,7 +376,7 @@ wrap (inside_frame s h) e = e
 
 abbrev pub reduce : ℕ → Tree → List Frame → Tree × List Frame
 reduce m e [] = (e, [])
-reduce m e (f ∷ k) = if nat_le (bar f) m then reduce m (wrap f e) k else (e, f ∷ k)
+reduce m e (f ∷ k) = if nat_le (level_bound f) m then reduce m (wrap f e) k else (e, f ∷ k)
 
 pub data State : Type 0 where
   state : Setting → Shape → List Frame → State
@@ -394,16 +394,16 @@ abbrev pub entered_all : Setting → List Frame → Option Next → Option State
 entered_all s k None = None
 entered_all s k (Some n) = Some (entered s k n)
 
-abbrev pub shut : Mark → Tree → List Frame → Option State
-shut m e [] = None
-shut m e (prefix_frame o p ∷ k) = None
-shut m e (infix_frame r c p a ∷ k) = None
-shut m e (assign_frame o p v ∷ k) = None
-shut m e (inside_frame s h ∷ k) = entered_all s k (close m h e)
+abbrev pub fill_hole : Mark → Tree → List Frame → Option State
+fill_hole m e [] = None
+fill_hole m e (prefix_frame o p ∷ k) = None
+fill_hole m e (infix_frame r c p a ∷ k) = None
+fill_hole m e (assign_frame o p v ∷ k) = None
+fill_hole m e (inside_frame s h ∷ k) = entered_all s k (close m h e)
 
 abbrev pub prefixed : Setting → Option Prefix → Place → List Frame → Option State
 prefixed s None p k = None
-prefixed s (Some o) p k = if is_value s && nat_lt (2 * rank o + 1) (bar_of k) then Some (state s fresh (prefix_frame o p ∷ k)) else None
+prefixed s (Some o) p k = if is_value s && nat_lt (2 * rank o + 1) (level_bound_of k) then Some (state s fresh (prefix_frame o p ∷ k)) else None
 
 abbrev pub if_fresh : Setting → Shape → Option Prefix → Place → List Frame → Option State
 if_fresh s (using reading) o p k = prefixed s o p k
@@ -450,18 +450,19 @@ otherwise s sh k p x = if_fresh s sh (prefix_of (plain x)) p k
 
 abbrev pub assign : Setting → Option Variable → Option ℕ → Place → List Frame → Option State
 assign s None o p k = None
-assign s (Some v) o p k = if nat_lt 21 (bar_of k) then Some (state (behind s) fresh (assign_frame o p v ∷ k)) else None
+assign s (Some v) o p k = if nat_lt 21 (level_bound_of k) then Some (state (behind s) fresh (assign_frame o p v ∷ k)) else None
 
 -- an operator between operands that is a word: after a variable that may be assigned `=` may come
 abbrev pub join : Setting → Option Variable → Option (ℕ × ℕ) → Place → Tree → List Frame → Option State
 join s None o p e k = operate s o p e k
 join s (Some v) None p e k = None
 join s (Some v) (Some (zero, c)) p e k = None
-join s (Some v) (Some (suc r, c)) p e k = if is_boolean (suc r) && nat_lt 21 (bar_of k) then Some (joined s r c p v k) else operate s (Some (suc r, c)) p e k
+join s (Some v) (Some (suc r, c)) p e k =
+    if is_boolean (suc r) && nat_lt 21 (level_bound_of k) then Some (joined s r c p v k) else operate s (Some (suc r, c)) p e k
 
 -- a word after a whole operand that is no part of it
 abbrev pub after : Setting → Shape → Tree → List Frame → Place → Lexeme → Option State
-after s sh e k p (mark m) = (let x = reduce 22 e k in shut m x.0 x.1)
+after s sh e k p (mark m) = (let x = reduce 22 e k in fill_hole m x.0 x.1)
 after s sh e k p (assigns o) = assign s (target sh) o p k
 after s sh e k p (infix_word r c) = join s (target sh) (Some (r, c)) p e k
 after s sh e k p (reserved n x) = join s (target sh) (infix_of x) p e k

@@ -7,11 +7,11 @@ use Rattle.p8_grammar.specs.Views.{setting_of, shape_of}
 use Rattle.p8_grammar.specs.Levels.{frames_in, joined_at}
 use Rattle.p8_grammar.specs.declared.lexemes.Setting as setting
 use Rattle.p8_grammar.specs.declared.reader.Reader.{Reader}
-use Rattle.p8_grammar.specs.declared.reader.Stage as stage
-use Rattle.p8_grammar.specs.declared.reader.Stage.TheVariants as stage_case
+use Rattle.p8_grammar.specs.declared.reader.ReaderStage as stage
+use Rattle.p8_grammar.specs.declared.reader.ReaderStage.TheVariants as stage_case
 
 -- internal: where the reader is
-abbrev pub state_at : setting.Setting → stage.Stage → List Frame → State
+abbrev pub state_at : setting.Setting → stage.ReaderStage → List Frame → State
 state_at s (stage_case.Form x) k = state (setting_of s) (shape_of x) k
 state_at s (stage_case.Joined x) k = joined_at s x k
 

@@ -12,8 +12,8 @@ use Rattle.p8_grammar.specs.declared.lexemes.Setting as setting
 use Rattle.p8_grammar.specs.declared.lexemes.Setting.TheVariants as setting_case
 use Rattle.p8_grammar.specs.declared.lexemes.Access as access
 use Rattle.p8_grammar.specs.declared.lexemes.Access.TheVariants as access_case
-use Rattle.p8_grammar.specs.declared.lexemes.Mark as mark
-use Rattle.p8_grammar.specs.declared.lexemes.Mark.TheVariants as mark_case
+use Rattle.p8_grammar.specs.declared.lexemes.Punctuation as mark
+use Rattle.p8_grammar.specs.declared.lexemes.Punctuation.TheVariants as mark_case
 use Rattle.p8_grammar.specs.declared.lexemes.Operator as operator
 use Rattle.p8_grammar.specs.declared.lexemes.Operator.TheVariants as operator_case
 use Rattle.p8_grammar.specs.declared.lexemes.Term as term
@@ -28,8 +28,8 @@ use Rattle.p8_grammar.specs.declared.measured.TallList.{TallList}
 use Rattle.p8_grammar.specs.declared.measured.TallItems.{TallItems}
 use Rattle.p8_grammar.specs.declared.shapes.Use as use_
 use Rattle.p8_grammar.specs.declared.shapes.Use.TheVariants as use_case
-use Rattle.p8_grammar.specs.declared.shapes.Head as head
-use Rattle.p8_grammar.specs.declared.shapes.Head.TheVariants as head_case
+use Rattle.p8_grammar.specs.declared.shapes.CallHead as head
+use Rattle.p8_grammar.specs.declared.shapes.CallHead.TheVariants as head_case
 use Rattle.p8_grammar.specs.declared.shapes.Shape as shape
 use Rattle.p8_grammar.specs.declared.shapes.Shape.TheVariants as shape_case
 use Rattle.p8_grammar.specs.declared.shapes.Hole as hole
@@ -61,7 +61,7 @@ access_of access_case.InputPins = lexemes.input_pins
 access_of access_case.Input = lexemes.input
 access_of access_case.Assembly = lexemes.assembly
 
-abbrev pub mark_of : mark.Mark → lexemes.Mark
+abbrev pub mark_of : mark.Punctuation → lexemes.Mark
 mark_of mark_case.LeftParenthesis = lexemes.left_parenthesis
 mark_of mark_case.RightParenthesis = lexemes.right_parenthesis
 mark_of mark_case.LeftBracket = lexemes.left_bracket
@@ -131,7 +131,7 @@ abbrev pub index_in : Option Tall → Index
 index_in None = no_index
 index_in (Some t) = index (expr_of t)
 
-abbrev pub head_of : head.Head → Head
+abbrev pub head_of : head.CallHead → Head
 head_of (head_case.Calls trap object i method q p) = grammar.calls trap object (index_in i) method q p
 head_of (head_case.Built k p) = grammar.built k p
 

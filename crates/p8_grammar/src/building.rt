@@ -9,7 +9,7 @@ ghost use Rattle.p8_grammar.specs.Machine.{used};
 ghost use Rattle.p8_grammar.specs.Views.{expr_of, target_of, list_of, choices_of, use_of, head_of, index_in};
 
 use crate::measured::{TOO_HIGH, Tall, TallItems, TallList, TallTarget};
-use crate::shapes::{Head, Use};
+use crate::shapes::{CallHead, Use};
 use p8_tree::{Call, Expr, ExprKind, Item, Place, Target, Text};
 use std::alloc::{AllocError, Global};
 
@@ -422,11 +422,11 @@ fn index_of(element: Option<Tall>) -> Position
 }
 
 /// A head with its arguments.
-pub fn applied(alloc: Global, head: Head, arguments: TallList) -> Result<Tall, AllocError>
+pub fn applied(alloc: Global, head: CallHead, arguments: TallList) -> Result<Tall, AllocError>
     ensures { IfOk result (λ e. expr_of e ≡ applied (head_of head) (list_of arguments)) }
 {
     match head {
-        Head::Calls(trap, object, element, method, method_place, place) => {
+        CallHead::Calls(trap, object, element, method, method_place, place) => {
             let at = index_of(element);
             let high = over(at.high.max(arguments.high));
             let call = Call {
@@ -439,6 +439,6 @@ pub fn applied(alloc: Global, head: Head, arguments: TallList) -> Result<Tall, A
             };
             Tall::new(alloc, place, ExprKind::Call(call), high)
         }
-        Head::Built(code, place) => built(alloc, place, code, arguments),
+        CallHead::Built(code, place) => built(alloc, place, code, arguments),
     }
 }

@@ -7,9 +7,9 @@ ghost use Rattle.p8_grammar.specs.Machine.{named_element, at_right_bracket, at_r
 ghost use Rattle.p8_grammar.specs.Views.{Closes, IsWhole, IsTarget, expr_of, target_of, shape_of, hole_of, use_of, mark_of, head_of, list_of};
 
 use crate::building;
-use crate::lexemes::{Access, Mark};
+use crate::lexemes::{Access, Punctuation};
 use crate::measured::{Tall, TallItems, TallList, TallTarget};
-use crate::shapes::{Head, Hole, Shape, Use};
+use crate::shapes::{CallHead, Hole, Shape, Use};
 use p8_tree::{Place, Text};
 use std::alloc::{AllocError, Global};
 
@@ -67,7 +67,7 @@ pub fn whole(alloc: Global, shape: Shape) -> Result<Finished, AllocError>
         }
         Shape::Ready(usage, variable, _) => with_tree(building::used(alloc, usage, variable)),
         Shape::TrappedName(place, name) => {
-            let head = Head::Calls(true, None, None, name, place, place);
+            let head = CallHead::Calls(true, None, None, name, place, place);
             with_tree(building::applied(alloc, head, TallList::new(alloc)))
         }
         Shape::Headed(head) => with_tree(building::applied(alloc, head, TallList::new(alloc))),
@@ -163,7 +163,12 @@ fn at_right_bracket(alloc: Global, hole: Hole, tree: Tall) -> Result<Closed, All
 }
 
 // A call with one more argument, the last.
-fn called(alloc: Global, head: Head, arguments: TallList, last: Tall) -> Result<Closed, AllocError>
+fn called(
+    alloc: Global,
+    head: CallHead,
+    arguments: TallList,
+    last: Tall,
+) -> Result<Closed, AllocError>
     ensures { IfOk result (λ c. Closes (Some (stays (done (applied (head_of head) (list_of arguments ▷ expr_of last))))) c) }
 {
     match arguments.with(last) {
@@ -179,7 +184,7 @@ fn called(alloc: Global, head: Head, arguments: TallList, last: Tall) -> Result<
 }
 
 // A call with one more argument, after which another comes.
-fn another_argument(head: Head, arguments: TallList, tree: Tall) -> Result<Closed, AllocError>
+fn another_argument(head: CallHead, arguments: TallList, tree: Tall) -> Result<Closed, AllocError>
     ensures { IfOk result (λ c. Closes (Some (opens (argument_of (head_of head) (list_of arguments ▷ expr_of tree)))) c) }
 {
     match arguments.with(tree) {
@@ -296,16 +301,16 @@ fn at_range(hole: Hole, tree: Tall) -> Closed
 }
 
 /// A form with the expression that it waits for, up to a mark that may end it.
-pub fn close(alloc: Global, mark: Mark, hole: Hole, tree: Tall) -> Result<Closed, AllocError>
+pub fn close(alloc: Global, mark: Punctuation, hole: Hole, tree: Tall) -> Result<Closed, AllocError>
     requires { IsSome (close (mark_of mark) (hole_of hole) (expr_of tree)) }
     ensures { IfOk result (λ c. Closes (close (mark_of mark) (hole_of hole) (expr_of tree)) c) }
 {
     match mark {
-        Mark::RightParenthesis => at_right_parenthesis(alloc, hole, tree),
-        Mark::RightBracket => at_right_bracket(alloc, hole, tree),
-        Mark::Comma => at_comma(alloc, hole, tree),
-        Mark::Colon => Ok(at_colon(alloc, hole, tree)),
-        Mark::DotDot => Ok(at_range(hole, tree)),
+        Punctuation::RightParenthesis => at_right_parenthesis(alloc, hole, tree),
+        Punctuation::RightBracket => at_right_bracket(alloc, hole, tree),
+        Punctuation::Comma => at_comma(alloc, hole, tree),
+        Punctuation::Colon => Ok(at_colon(alloc, hole, tree)),
+        Punctuation::DotDot => Ok(at_range(hole, tree)),
         _ => unreachable!(),
     }
 }

@@ -9,9 +9,9 @@ ghost use Rattle.p8_grammar.specs.Lexemes.{in_method, here, number as number_wor
 
 use crate::building::{built, change, look, number, quoted, strings};
 use crate::forms::{Written, target};
-use crate::lexemes::{Access, Mark, Setting, Term};
+use crate::lexemes::{Access, Punctuation, Setting, Term};
 use crate::measured::{Tall, TallList};
-use crate::shapes::{Grown, Head, Hole, Shape, Use};
+use crate::shapes::{CallHead, Grown, Hole, Shape, Use};
 use p8_tree::{ExprKind, Place, Text};
 use std::alloc::{AllocError, Global};
 
@@ -129,16 +129,11 @@ fn on_name(alloc: Global, place: Place, name: Text, shape: Shape) -> Result<Grow
             Ok(Grown::Stays(Shape::Named(usage, false, colon, name)))
         }
         Shape::Dotted(Use::Reading, true, first, object) => Ok(Grown::Stays(Shape::Headed(
-            Head::Calls(false, Some(object), None, name, place, first),
+            CallHead::Calls(false, Some(object), None, name, place, first),
         ))),
-        Shape::ObjectDot(trap, first, object, index) => Ok(Grown::Stays(Shape::Headed(Head::Calls(
-            trap,
-            Some(object),
-            index,
-            name,
-            place,
-            first,
-        )))),
+        Shape::ObjectDot(trap, first, object, index) => Ok(Grown::Stays(Shape::Headed(
+            CallHead::Calls(trap, Some(object), index, name, place, first),
+        ))),
         Shape::Trapping => Ok(Grown::Stays(Shape::TrappedName(place, name))),
         Shape::Hashed(first, object) => {
             let constant = ExprKind::ObjConst(object, name, place);
@@ -284,11 +279,11 @@ fn on_parenthesis(alloc: Global, setting: Setting, shape: Shape) -> Grown
             }
         }
         Shape::Named(Use::Reading, true, place, name) => {
-            let head = Head::Calls(false, None, None, name, place, place);
+            let head = CallHead::Calls(false, None, None, name, place, place);
             Grown::Opens(Hole::ArgumentOf(head, TallList::new(alloc)))
         }
         Shape::TrappedName(place, name) => {
-            let head = Head::Calls(true, None, None, name, place, place);
+            let head = CallHead::Calls(true, None, None, name, place, place);
             Grown::Opens(Hole::ArgumentOf(head, TallList::new(alloc)))
         }
         Shape::Headed(head) => Grown::Opens(Hole::ArgumentOf(head, TallList::new(alloc))),
@@ -471,23 +466,23 @@ pub fn on_mark(
     alloc: Global,
     setting: Setting,
     place: Place,
-    mark: Mark,
+    mark: Punctuation,
     shape: Shape,
 ) -> Result<Grown, AllocError>
     ensures { IfOk result (λ g. Grows (on_mark (setting_of setting) place (mark_of mark) (shape_of shape)) (shape_of shape) g) }
 {
     match mark {
-        Mark::LeftParenthesis => Ok(on_parenthesis(alloc, setting, shape)),
-        Mark::RightParenthesis => on_close(alloc, shape),
-        Mark::LeftBracket => Ok(on_bracket(setting, shape)),
-        Mark::Colon => Ok(on_colon(setting, place, shape)),
-        Mark::Dot => Ok(on_dot(shape)),
-        Mark::Hash => Ok(on_constant(setting, shape)),
-        Mark::Backslash => Ok(begins(shape, Shape::Trapping)),
-        Mark::RightBracket => Ok(Grown::Same(shape)),
-        Mark::Comma => on_comma(alloc, shape),
-        Mark::DotDot => Ok(Grown::Same(shape)),
-        Mark::Equal => Ok(Grown::Same(shape)),
+        Punctuation::LeftParenthesis => Ok(on_parenthesis(alloc, setting, shape)),
+        Punctuation::RightParenthesis => on_close(alloc, shape),
+        Punctuation::LeftBracket => Ok(on_bracket(setting, shape)),
+        Punctuation::Colon => Ok(on_colon(setting, place, shape)),
+        Punctuation::Dot => Ok(on_dot(shape)),
+        Punctuation::Hash => Ok(on_constant(setting, shape)),
+        Punctuation::Backslash => Ok(begins(shape, Shape::Trapping)),
+        Punctuation::RightBracket => Ok(Grown::Same(shape)),
+        Punctuation::Comma => on_comma(alloc, shape),
+        Punctuation::DotDot => Ok(Grown::Same(shape)),
+        Punctuation::Equal => Ok(Grown::Same(shape)),
     }
 }
 
@@ -542,9 +537,9 @@ pub fn on_term(
         Term::ConstantWord => { Ok(begins_value(setting, shape, Shape::ConstantBegun(place))) }
         Term::Look(code) => Ok(begins_value(setting, shape, Shape::LookBegun(place, code))),
         Term::Value(code) => on_value(alloc, place, code, shape),
-        Term::BuiltIn(code) => Ok(begins(shape, Shape::Headed(Head::Built(code, place)))),
+        Term::BuiltIn(code) => Ok(begins(shape, Shape::Headed(CallHead::Built(code, place)))),
         Term::Command(code) => {
-            let command = Shape::Headed(Head::Built(code, place));
+            let command = Shape::Headed(CallHead::Built(code, place));
             Ok(begins_action(setting, shape, command))
         }
         Term::Other => Ok(Grown::Same(shape)),

@@ -10,7 +10,7 @@ ghost use Rattle.p8_grammar.specs.Levels.{frames_in, joined_at, operator_frames,
 
 use crate::building::{over, used};
 use crate::growing;
-use crate::lexemes::{Lexeme, Mark, Operator, Reserved, Setting, Term};
+use crate::lexemes::{Lexeme, Operator, Punctuation, Reserved, Setting, Term};
 use crate::measured::TallTarget;
 use crate::shapes::{Grown, Shape, Use};
 use crate::stack::{Frame, Prefix, Stack};
@@ -153,7 +153,7 @@ fn resolve_mark(
     setting: Setting,
     joined: Joined,
     place: Place,
-    mark: Mark,
+    mark: Punctuation,
     stack: &mut Stack,
 ) -> Result<Resolved, AllocError>
     ensures { IfOk result (λ t. Resolves (step (joined_at setting joined (frames_in stack.old)) (token place (mark_word (mark_of mark)))) (joined_at setting joined (frames_in stack.old)) setting t (frames_in stack.new)) }

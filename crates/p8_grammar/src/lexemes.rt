@@ -125,7 +125,7 @@ impl Access {
 
 /// A mark between words.
 #[derive(Clone, Copy)]
-pub enum Mark {
+pub enum Punctuation {
     LeftParenthesis,
     RightParenthesis,
     LeftBracket,
@@ -140,13 +140,13 @@ pub enum Mark {
     Equal,
 }
 
-impl Mark {
+impl Punctuation {
     /// Whether it is `=`.
     pub fn is_equal(self) -> bool
         ensures { IsTrue result ↔ (mark_of self ≡ equal) }
     {
         match self {
-            Mark::Equal => true,
+            Punctuation::Equal => true,
             _ => false,
         }
     }
@@ -224,7 +224,7 @@ pub enum Reserved {
 /// What a token is to an expression.
 #[derive(Drop)]
 pub enum Lexeme {
-    Mark(Mark),
+    Mark(Punctuation),
     Operator(Operator),
     Term(Term),
     /// A reserved word, with its characters in capitals: behind the colon of a local label of DAT it is a name.

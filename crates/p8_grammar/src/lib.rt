@@ -17,5 +17,5 @@ pub use laws::{
     fronts_begin_fronts, height_shows, one_longest_front, one_tree, spelled_is_proper,
     taken_is_front,
 };
-pub use lexemes::{Access, Lexeme, Mark, Operator, Reserved, Setting, Term};
+pub use lexemes::{Access, Lexeme, Operator, Punctuation, Reserved, Setting, Term};
 pub use reader::Reader;

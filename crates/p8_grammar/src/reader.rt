@@ -23,7 +23,7 @@ use std::mem;
 
 /// Where a reader is.
 #[derive(Drop)]
-pub enum Stage {
+pub enum ReaderStage {
     /// In a form.
     Form(Shape),
     /// After a variable and AND or OR, which with `=` are an assignment.
@@ -37,7 +37,7 @@ pub enum Stage {
 #[derive(Drop)]
 pub struct Reader {
     setting: Setting,
-    stage: Stage,
+    stage: ReaderStage,
     stack: Stack,
 }
 
@@ -48,7 +48,7 @@ impl Reader {
     {
         Reader {
             setting,
-            stage: Stage::Form(Shape::Using(Use::Reading)),
+            stage: ReaderStage::Form(Shape::Using(Use::Reading)),
             stack: Stack::new(alloc),
         }
     }
@@ -67,9 +67,12 @@ impl Reader {
     fn advance(&mut self, alloc: Global, place: Place, lexeme: Lexeme) -> Result<bool, AllocError>
         ensures { IfOk result (λ b. Steps (step (state_of self.old) (token place (lexeme_of lexeme))) (state_of self.old) b (state_of self.new)) }
     {
-        match mem::replace(&mut self.stage, Stage::Form(Shape::Using(Use::Reading))) {
-            Stage::Form(shape) => self.go_on(alloc, shape, place, lexeme),
-            Stage::Joined(joined) => self.resolve(alloc, joined, place, lexeme),
+        match mem::replace(
+            &mut self.stage,
+            ReaderStage::Form(Shape::Using(Use::Reading)),
+        ) {
+            ReaderStage::Form(shape) => self.go_on(alloc, shape, place, lexeme),
+            ReaderStage::Joined(joined) => self.resolve(alloc, joined, place, lexeme),
         }
     }
 
@@ -86,16 +89,16 @@ impl Reader {
         match taking::take(alloc, self.setting, shape, place, lexeme, &mut self.stack)? {
             Taken::On(setting, shape) => {
                 self.setting = setting;
-                drop(mem::replace(&mut self.stage, Stage::Form(shape)));
+                drop(mem::replace(&mut self.stage, ReaderStage::Form(shape)));
                 Ok(true)
             }
             Taken::Joins(setting, joined) => {
                 self.setting = setting;
-                drop(mem::replace(&mut self.stage, Stage::Joined(joined)));
+                drop(mem::replace(&mut self.stage, ReaderStage::Joined(joined)));
                 Ok(true)
             }
             Taken::Dead(shape) => {
-                drop(mem::replace(&mut self.stage, Stage::Form(shape)));
+                drop(mem::replace(&mut self.stage, ReaderStage::Form(shape)));
                 Ok(false)
             }
         }
@@ -114,11 +117,11 @@ impl Reader {
         match joining::resolve(alloc, self.setting, joined, place, lexeme, &mut self.stack)? {
             Resolved::On(setting, shape) => {
                 self.setting = setting;
-                drop(mem::replace(&mut self.stage, Stage::Form(shape)));
+                drop(mem::replace(&mut self.stage, ReaderStage::Form(shape)));
                 Ok(true)
             }
             Resolved::Dead(joined) => {
-                drop(mem::replace(&mut self.stage, Stage::Joined(joined)));
+                drop(mem::replace(&mut self.stage, ReaderStage::Joined(joined)));
                 Ok(false)
             }
         }
@@ -129,8 +132,8 @@ impl Reader {
         ensures { result ≡ least_of self.now }
     {
         match &self.stage {
-            Stage::Form(shape) => self.stack.least(shape.least()),
-            Stage::Joined(joined) => self.stack.least(joined.least()),
+            ReaderStage::Form(shape) => self.stack.least(shape.least()),
+            ReaderStage::Joined(joined) => self.stack.least(joined.least()),
         }
     }
 
@@ -169,11 +172,11 @@ impl Reader {
         } = self;
         let mut stack = stack;
         match stage {
-            Stage::Form(shape) => match taking::finish(alloc, setting, shape, &mut stack)? {
+            ReaderStage::Form(shape) => match taking::finish(alloc, setting, shape, &mut stack)? {
                 Some(tree) => Ok(Some(tree.into_tree())),
                 None => Ok(None),
             },
-            Stage::Joined(joined) => {
+            ReaderStage::Joined(joined) => {
                 drop(joined);
                 Ok(None)
             }

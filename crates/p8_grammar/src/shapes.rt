@@ -22,21 +22,21 @@ pub enum Use {
 
 /// What arguments in parentheses may follow.
 #[derive(Drop)]
-pub enum Head {
+pub enum CallHead {
     /// Whether it stops an abort, the object and its index, the method with its place, the place.
     Calls(bool, Option<Text>, Option<Tall>, Text, Place, Place),
     Built(u8, Place),
 }
 
-impl Head {
+impl CallHead {
     /// The height of the highest expression in it, counted up to 65.
     pub fn high(&self) -> u8
         ensures { result ≡ min 65 (height_in_head (head_of self.now)) }
     {
         match self {
-            Head::Calls(_, _, Some(index), _, _, _) => index.high,
-            Head::Calls(_, _, None, _, _, _) => 0,
-            Head::Built(_, _) => 0,
+            CallHead::Calls(_, _, Some(index), _, _, _) => index.high,
+            CallHead::Calls(_, _, None, _, _, _) => 0,
+            CallHead::Built(_, _) => 0,
         }
     }
 }
@@ -65,7 +65,7 @@ pub enum Shape {
     TrappedElement(Place, Text, Tall),
     /// After an object's dot.
     ObjectDot(bool, Place, Text, Option<Tall>),
-    Headed(Head),
+    Headed(CallHead),
     /// After an object's `#`.
     Hashed(Place, Text),
     StringBegun(Place),
@@ -136,7 +136,7 @@ pub enum Hole {
     FirstBit(Use, Place, u16, Access),
     LastBit(Use, Place, u16, Access, Tall),
     TrappedIndex(Place, Text),
-    ArgumentOf(Head, TallList),
+    ArgumentOf(CallHead, TallList),
     /// The first item of `STRING`, which isn't a string alone.
     FirstItem(Place),
     /// A later one.

@@ -1,14 +1,14 @@
 // What is begun and waits for an operand or an expression, the last first.
 ghost use Rattle.std.specs.Prelude.{◌≡◌, ℕ, ◌+◌, ◌*◌, ◌<◌, ◌≤◌, [], ◌∷◌, OnOk, IsTrue, ◌↔◌, MatchOption, List, min, max};
 ghost use Rattle.p8_grammar.specs.Machine as machine;
-ghost use Rattle.p8_grammar.specs.Machine.{bar, bar_of};
+ghost use Rattle.p8_grammar.specs.Machine.{level_bound, level_bound_of};
 ghost use Rattle.p8_grammar.specs.Grammar.{rank, effect_of};
 ghost use Rattle.p8_grammar.specs.Least.{need, high_in_hole, high_in_frame, adds_hole, adds_frame, depth, base};
 ghost use Rattle.p8_grammar.specs.Views.{hole_of, mark_of, prefix_in, frame_of};
 ghost use Rattle.p8_grammar.specs.Endings.{allows, ends_of_hole, ends_of_frame, ends_of, takes_text, text_taken};
 ghost use Rattle.p8_grammar.specs.Levels.{frames_in, IsMeasured};
 
-use crate::lexemes::{Mark, Setting};
+use crate::lexemes::{Punctuation, Setting};
 use crate::measured::{TOO_HIGH, Tall, TallTarget};
 use crate::shapes::Hole;
 use p8_tree::Place;
@@ -64,8 +64,8 @@ pub enum Frame {
 }
 
 // The level that the operand after a frame stays below.
-fn bar(frame: &Frame) -> u32
-    ensures { result ≡ bar (frame_of frame.now) }
+fn level_bound(frame: &Frame) -> u32
+    ensures { result ≡ level_bound (frame_of frame.now) }
 {
     match frame {
         Frame::Prefix(operator, _) => 2 * u32::from(operator.rank()) + 2,
@@ -143,17 +143,17 @@ pub enum Ends {
 
 impl Ends {
     // Whether the mark is among them.
-    fn allows(self, mark: Mark) -> bool
+    fn allows(self, mark: Punctuation) -> bool
         ensures { result ≡ allows (mark_of mark) self }
     {
         match mark {
-            Mark::RightParenthesis => {
+            Punctuation::RightParenthesis => {
                 matches!(self, Ends::Parenthesis | Ends::Argument | Ends::Choice)
             }
-            Mark::RightBracket => matches!(self, Ends::Bracket | Ends::Bit),
-            Mark::Comma => matches!(self, Ends::Argument | Ends::Choice),
-            Mark::Colon => matches!(self, Ends::Value),
-            Mark::DotDot => matches!(self, Ends::Bit | Ends::Choice),
+            Punctuation::RightBracket => matches!(self, Ends::Bracket | Ends::Bit),
+            Punctuation::Comma => matches!(self, Ends::Argument | Ends::Choice),
+            Punctuation::Colon => matches!(self, Ends::Value),
+            Punctuation::DotDot => matches!(self, Ends::Bit | Ends::Choice),
             _ => false,
         }
     }
@@ -197,7 +197,7 @@ fn takes_text(frame: &Frame) -> bool
 fn ends_behind(frame: &Frame, below: Ends) -> Ends
     ensures { (k : List machine.Frame) → below ≡ ends_of k → result ≡ ends_of (frame_of frame.now ∷ k) }
 {
-    if bar(frame) <= 22 {
+    if level_bound(frame) <= 22 {
         below
     } else {
         ends_of_frame(frame)
@@ -331,11 +331,11 @@ impl Stack {
     }
 
     /// The level that what comes next stays below.
-    pub fn bar(&self) -> u32
-        ensures { result ≡ bar_of (frames_in self.now) }
+    pub fn level_bound(&self) -> u32
+        ensures { result ≡ level_bound_of (frames_in self.now) }
     {
         match self.levels.last() {
-            Some(level) => bar(&level.frame),
+            Some(level) => level_bound(&level.frame),
             None => 23,
         }
     }
@@ -351,7 +351,7 @@ impl Stack {
     }
 
     /// Whether the mark may end the expression in the innermost form.
-    pub fn ends_with(&self, mark: Mark) -> bool
+    pub fn ends_with(&self, mark: Punctuation) -> bool
         ensures { result ≡ allows (mark_of mark) (ends_of (frames_in self.now)) }
     {
         self.bounds().ends.allows(mark)

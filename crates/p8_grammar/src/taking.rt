@@ -1,7 +1,7 @@
 // One word more, with what is begun kept on a stack.
 ghost use Rattle.std.specs.Prelude.{◌≡◌, List, ℕ, ◌+◌, ◌*◌, ◌<◌, ◌≤◌, ◌&&◌, nat_lt, Some, None, IfOk, OnOk, IsSome, IsTrue, option_and_then, option_map, length, false};
 ghost use Rattle.p8_grammar.specs.Machine as machine;
-ghost use Rattle.p8_grammar.specs.Machine.{wrap, reduce, shut, step, state, fresh, if_fresh, on_prefix, entered_all, altering, operate, join, bar_of, assign, grow, tree, whole_in, target, accept, all_of, string_opened, string_read, is_text, is_word, is_unopened, is_ordinary, lone, is_coloned};
+ghost use Rattle.p8_grammar.specs.Machine.{wrap, reduce, fill_hole, step, state, fresh, if_fresh, on_prefix, entered_all, altering, operate, join, level_bound_of, assign, grow, tree, whole_in, target, accept, all_of, string_opened, string_read, is_text, is_word, is_unopened, is_ordinary, lone, is_coloned};
 ghost use Rattle.p8_grammar.specs.Grammar.{is_boolean, effect_of};
 ghost use Rattle.p8_grammar.specs.Lexemes as lexemes;
 ghost use Rattle.p8_grammar.specs.Lexemes.{token, is_value, mark as mark_word, sign, string as string_word, reserved};
@@ -10,7 +10,7 @@ ghost use Rattle.p8_grammar.specs.Levels.{frames_in, Takes};
 
 use crate::forms::{Closed, Finished, Written, close, target, whole};
 use crate::joining::Joined;
-use crate::lexemes::{Lexeme, Mark, Operator, Reserved, Setting, Term};
+use crate::lexemes::{Lexeme, Operator, Punctuation, Reserved, Setting, Term};
 use crate::measured::Tall;
 use crate::shapes::{Grown, Hole, Shape, Use};
 use crate::stack::{Frame, Prefix, Stack};
@@ -51,7 +51,7 @@ fn reduce(alloc: Global, level: u32, tree: Tall, stack: &mut Stack) -> Result<Ta
     ensures { IfOk result (λ e. reduce level (expr_of tree) (frames_in stack.old) ≡ (expr_of e, frames_in stack.new)) }
 {
     let mut tree = tree;
-    'ends: while stack.bar() <= level {
+    'ends: while stack.level_bound() <= level {
         match stack.pop() {
             Some(frame) => tree = wrap(alloc, frame, tree)?,
             None => unreachable!(),
@@ -61,14 +61,15 @@ fn reduce(alloc: Global, level: u32, tree: Tall, stack: &mut Stack) -> Result<Ta
 }
 
 // A mark that ends the expression in the last form: the setting and the form that go on.
-fn shut(
+fn fill_hole(
     alloc: Global,
-    mark: Mark,
+    mark: Punctuation,
     tree: Tall,
     stack: &mut Stack,
 ) -> Result<(Setting, Shape), AllocError>
-    requires { IsSome (shut (mark_of mark) (expr_of tree) (frames_in stack.old)) }
-    ensures { IfOk result (λ x. shut (mark_of mark) (expr_of tree) (frames_in stack.old) ≡ Some (state (setting_of x.0) (shape_of x.1) (frames_in stack.new))) }
+    requires { IsSome (fill_hole (mark_of mark) (expr_of tree) (frames_in stack.old)) }
+    ensures { IfOk result (λ x. fill_hole (mark_of mark) (expr_of tree) (frames_in stack.old) ≡
+        Some (state (setting_of x.0) (shape_of x.1) (frames_in stack.new))) }
 {
     match stack.pop() {
         Some(Frame::Inside(outer, hole)) => match close(alloc, mark, hole, tree)? {
@@ -86,11 +87,11 @@ fn shut(
 fn mark_after(
     alloc: Global,
     setting: Setting,
-    mark: Mark,
+    mark: Punctuation,
     shape: Shape,
     stack: &mut Stack,
 ) -> Result<Taken, AllocError>
-    ensures { IfOk result (λ t. Takes (option_and_then (λ e. shut (mark_of mark) (reduce 22 e (frames_in stack.old)).0 (reduce 22 e (frames_in stack.old)).1) (tree (shape_of shape))) (state (setting_of setting) (shape_of shape) (frames_in stack.old)) t (frames_in stack.new)) }
+    ensures { IfOk result (λ t. Takes (option_and_then (λ e. fill_hole (mark_of mark) (reduce 22 e (frames_in stack.old)).0 (reduce 22 e (frames_in stack.old)).1) (tree (shape_of shape))) (state (setting_of setting) (shape_of shape) (frames_in stack.old)) t (frames_in stack.new)) }
 {
     if !stack.ends_with(mark) {
         return Ok(Taken::Dead(shape));
@@ -99,7 +100,7 @@ fn mark_after(
         Finished::Not(shape) => Ok(Taken::Dead(shape)),
         Finished::Tree(tree) => {
             let tree = reduce(alloc, 22, tree, stack)?;
-            let (setting, shape) = shut(alloc, mark, tree, stack)?;
+            let (setting, shape) = fill_hole(alloc, mark, tree, stack)?;
             Ok(Taken::On(setting, shape))
         }
     }
@@ -146,7 +147,7 @@ fn before(
 {
     match shape {
         Shape::Using(Use::Reading) => {
-            if setting.is_value() && 2 * u32::from(operator.rank()) + 1 < stack.bar() {
+            if setting.is_value() && 2 * u32::from(operator.rank()) + 1 < stack.level_bound() {
                 stack.push(Frame::Prefix(operator, place))?;
                 Ok(Taken::On(setting, Shape::Using(Use::Reading)))
             } else {
@@ -200,10 +201,10 @@ fn infix(
 
 // Whether `=` may come after the operator, where a variable is before it.
 fn may_join(rank: u8, stack: &Stack) -> bool
-    ensures joins { result ≡ (is_boolean rank && nat_lt 21 (bar_of (frames_in stack.now))) }
+    ensures joins { result ≡ (is_boolean rank && nat_lt 21 (level_bound_of (frames_in stack.now))) }
     ensures rank { IsTrue result → 9 ≤ rank }
 {
-    9 <= rank && rank <= 10 && 21 < stack.bar()
+    9 <= rank && rank <= 10 && 21 < stack.level_bound()
 }
 
 // An operator between operands, or what may be an assignment's word.
@@ -245,7 +246,7 @@ fn assign(
 ) -> Result<Taken, AllocError>
     ensures { IfOk result (λ t. Takes (assign (setting_of setting) (target (shape_of shape)) operator place (frames_in stack.old)) (state (setting_of setting) (shape_of shape) (frames_in stack.old)) t (frames_in stack.new)) }
 {
-    if stack.bar() <= 21 {
+    if stack.level_bound() <= 21 {
         return Ok(Taken::Dead(shape));
     }
     match target(shape) {
@@ -263,7 +264,7 @@ fn take_mark(
     setting: Setting,
     shape: Shape,
     place: Place,
-    mark: Mark,
+    mark: Punctuation,
     stack: &mut Stack,
 ) -> Result<Taken, AllocError>
     requires { IsTrue (is_unopened (shape_of shape)) }

@@ -6,9 +6,9 @@ ghost use Rattle.p8_hint.specs.Accepting.{AreReady, AreTextsBy, IsReady, text_by
 ghost use Rattle.p8_hint.specs.Hints.{texts_of};
 
 use crate::facts::facts_of_items;
+use crate::hint_text::text_of_hints;
 use crate::items::hints_in;
 use crate::lines::Lines;
-use crate::texts::text_of_hints;
 use p8_build::{Accepted, AcceptedFile};
 use p8_tree::{List, ProjectFile, Text};
 use p8_words::NoMemory;

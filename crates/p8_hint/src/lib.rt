@@ -5,6 +5,7 @@ mod accepted;
 mod expressions;
 mod facts;
 mod hint;
+mod hint_text;
 mod items;
 mod labels;
 mod laws;
@@ -16,7 +17,6 @@ mod rules;
 mod spot;
 mod statements;
 mod table;
-mod texts;
 
 pub use hint::{Hint, Slip};
 pub use laws::one_hints;

@@ -9,7 +9,7 @@ ghost use Rattle.p8_build.specs.Told.{IsRefusal};
 ghost use Rattle.p8_hint.specs.Projects.{IsHintsOf};
 
 use crate::accepted::texts_of_accepted;
-use crate::texts::whole_text;
+use crate::hint_text::whole_text;
 use p8_build::{Accepted, BuildFault, accept};
 use p8_tree::{Project, ProjectFile, Text};
 use p8_words::NoMemory;

@@ -10,7 +10,7 @@ use Rattle.p8_image.specs.declared.parts.MethodPart.{MethodPart}
 use Rattle.p8_image.specs.declared.parts.ObjectPart.{ObjectPart}
 use Rattle.p8_image.specs.declared.parts.TextUse.{TextUse}
 use Rattle.p8_image.specs.Layout.{codes_of, codes_offset, dat_offset, linked, text_offsets}
-use Rattle.p8_image.specs.Listing.{further, line_size, pieces_within, pieces_of, piece_lines, code_line, code_lines, method_line, method_lines, object_line, object_lines, objects_lines, long_lines, longs_of}
+use Rattle.p8_image.specs.Listing.{address_after, line_size, pieces_within, pieces_of, piece_lines, code_line, code_lines, method_line, method_lines, object_line, object_lines, objects_lines, long_lines, longs_of}
 use Rattle.p8_image.specs.Cutting.{own_bytes, cut_lines}
 
 -- each line has at least one byte
@@ -49,12 +49,12 @@ pieces-step (byte ∷ code) some =
 
 -- the first line of a code, and then those of the rest
 pub lines-step : (place : ℕ) (code : List ℕ) (size : ℕ) → size ≡ line_size code → 1 ≤ length code → size ≤ length code
-    → code_lines place code ≡ code_line place (take size code) ++ code_lines (further place size) (drop size code)
+    → code_lines place code ≡ code_line place (take size code) ++ code_lines (address_after place size) (drop size code)
 lines-step place code size is some within =
     let cut : pieces_of code ≡ take size code ∷ pieces_of (drop size code) =
     pieces-step code some ∙ ap (λ (s : ℕ). take s code ∷ pieces_of (drop s code)) (sym is) in
     let long : length (take size code) ≡ size = length-take-le size code within in
-    ap (piece_lines place) cut ∙ ap (λ (s : ℕ). code_line place (take size code) ++ piece_lines (further place s) (pieces_of (drop size code))) long
+    ap (piece_lines place) cut ∙ ap (λ (s : ℕ). code_line place (take size code) ++ piece_lines (address_after place s) (pieces_of (drop size code))) long
 
 length-linked : (offset : ℕ → ℕ) (uses : List TextUse) (code : List ℕ) → length (linked offset uses code) ≡ length code
 length-linked offset [] code = refl
@@ -76,12 +76,12 @@ uncut offset (method ∷ methods) number place =
     let left : drop (own_bytes method (linked offset method.uses method.code ++ codes_of offset methods)) (linked offset method.uses method.code ++ codes_of offset methods) ≡ codes_of offset methods =
     ap (λ (n : ℕ). drop n (linked offset method.uses method.code ++ codes_of offset methods)) own ∙ drop-append_seam (linked offset method.uses method.code) (codes_of offset methods) in
     ap₂ (λ (code more : List ℕ). method_line number place ++ code_lines place code ++ more) taken
-    (ap (λ (bytes : List ℕ). cut_lines (number + 1) (further place (length method.code)) bytes methods) left
-    ∙ uncut offset methods (number + 1) (further place (length method.code)))
+    (ap (λ (bytes : List ℕ). cut_lines (number + 1) (address_after place (length method.code)) bytes methods) left
+    ∙ uncut offset methods (number + 1) (address_after place (length method.code)))
 
 -- an address is told mod 65,536, and so is what stands after it
-pub further-mod : (base bytes : ℕ) → further base (bytes % 65536) ≡ further base bytes
-further-mod base bytes = omega arith
+pub address_after-mod : (base bytes : ℕ) → address_after base (bytes % 65536) ≡ address_after base bytes
+address_after-mod base bytes = omega arith
 
 -- the lines of an object, written one part after the other
 pub object-whole : (name : List ℕ) (base : ℕ) (object : ObjectPart) (a b c d codes : List ℕ) (dat methods : ℕ)
@@ -89,21 +89,21 @@ pub object-whole : (name : List ℕ) (base : ℕ) (object : ObjectPart) (a b c d
     → c ≡ b ++ long_lines dat (longs_of object.dat)
     → d ≡ c ++ cut_lines 1 methods codes object.methods
     → codes ≡ codes_of (slice_index (text_offsets object)) object.methods
-    → dat ≡ further base (dat_offset object % 65536)
-    → methods ≡ further base (codes_offset object % 65536)
+    → dat ≡ address_after base (dat_offset object % 65536)
+    → methods ≡ address_after base (codes_offset object % 65536)
     → d ≡ a ++ object_lines name base object
 object-whole name base object a b c d codes dat methods first second third code where_dat where_codes =
-    let longs : long_lines dat (longs_of object.dat) ≡ long_lines (further base (dat_offset object)) (longs_of object.dat) =
-    ap (λ (place : ℕ). long_lines place (longs_of object.dat)) (where_dat ∙ further-mod base (dat_offset object)) in
-    let cut : cut_lines 1 methods codes object.methods ≡ method_lines (slice_index (text_offsets object)) 1 (further base (codes_offset object)) object.methods =
-    ap₂ (λ (place : ℕ) (bytes : List ℕ). cut_lines 1 place bytes object.methods) (where_codes ∙ further-mod base (codes_offset object)) code
-    ∙ uncut (slice_index (text_offsets object)) object.methods 1 (further base (codes_offset object)) in
+    let longs : long_lines dat (longs_of object.dat) ≡ long_lines (address_after base (dat_offset object)) (longs_of object.dat) =
+    ap (λ (place : ℕ). long_lines place (longs_of object.dat)) (where_dat ∙ address_after-mod base (dat_offset object)) in
+    let cut : cut_lines 1 methods codes object.methods ≡ method_lines (slice_index (text_offsets object)) 1 (address_after base (codes_offset object)) object.methods =
+    ap₂ (λ (place : ℕ) (bytes : List ℕ). cut_lines 1 place bytes object.methods) (where_codes ∙ address_after-mod base (codes_offset object)) code
+    ∙ uncut (slice_index (text_offsets object)) object.methods 1 (address_after base (codes_offset object)) in
     third
     ∙ ap₂ (λ (x y : List ℕ). x ++ y) (second ∙ ap₂ (λ (x y : List ℕ). x ++ y) first longs) cut
-    ∙ ap (λ (x : List ℕ). x ++ method_lines (slice_index (text_offsets object)) 1 (further base (codes_offset object)) object.methods)
-    (append_assoc a (object_line name base) (long_lines (further base (dat_offset object)) (longs_of object.dat)))
-    ∙ append_assoc a (object_line name base ++ long_lines (further base (dat_offset object)) (longs_of object.dat))
-    (method_lines (slice_index (text_offsets object)) 1 (further base (codes_offset object)) object.methods)
+    ∙ ap (λ (x : List ℕ). x ++ method_lines (slice_index (text_offsets object)) 1 (address_after base (codes_offset object)) object.methods)
+    (append_assoc a (object_line name base) (long_lines (address_after base (dat_offset object)) (longs_of object.dat)))
+    ∙ append_assoc a (object_line name base ++ long_lines (address_after base (dat_offset object)) (longs_of object.dat))
+    (method_lines (slice_index (text_offsets object)) 1 (address_after base (codes_offset object)) object.methods)
 
 -- where there are no objects or no names left, there are no lines
 no-objects : (base : ℕ) (names : List (List ℕ)) (objects : List ObjectPart) → length objects < 1 → objects_lines base names objects ≡ []

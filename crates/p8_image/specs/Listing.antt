@@ -12,8 +12,8 @@ use Rattle.p8_instr.specs.Instructions.{long_text}
 use Rattle.p8_instr.specs.Numerals.{hex}
 
 -- so many bytes after an address, which has 16 bits
-abbrev pub further : ℕ → ℕ → ℕ
-further place bytes = (place + bytes) % 65536
+abbrev pub address_after : ℕ → ℕ → ℕ
+address_after place bytes = (place + bytes) % 65536
 
 -- ---- the lines
 
@@ -50,7 +50,7 @@ longs_of [] = []
 -- the lines of longs that stand one after the other
 abbrev pub long_lines : (place : ℕ) → (longs : List ℕ) → List ℕ
 long_lines place [] = []
-long_lines place (long ∷ longs) = long_line place long ++ long_lines (further place 4) longs
+long_lines place (long ∷ longs) = long_line place long ++ long_lines (address_after place 4) longs
 
 -- ---- a method's code
 
@@ -72,7 +72,7 @@ pieces_of code = pieces_within (length code) code
 -- the lines of pieces that stand one after the other
 abbrev pub piece_lines : (place : ℕ) → List (List ℕ) → List ℕ
 piece_lines place [] = []
-piece_lines place (piece ∷ pieces) = code_line place piece ++ piece_lines (further place (length piece)) pieces
+piece_lines place (piece ∷ pieces) = code_line place piece ++ piece_lines (address_after place (length piece)) pieces
 
 abbrev pub code_lines : (place : ℕ) → (code : List ℕ) → List ℕ
 code_lines place code = piece_lines place (pieces_of code)
@@ -84,19 +84,19 @@ abbrev pub method_lines : (offset : ℕ → ℕ) → (number place : ℕ) → Li
 method_lines offset number place [] = []
 method_lines offset number place (method ∷ methods) =
     method_line number place ++ code_lines place (linked offset method.uses method.code)
-    ++ method_lines offset (number + 1) (further place (length method.code)) methods
+    ++ method_lines offset (number + 1) (address_after place (length method.code)) methods
 
 -- an object that begins there: its DAT with the zeros after it, and its methods, which are counted from 1
 abbrev pub object_lines : (name : List ℕ) → (base : ℕ) → ObjectPart → List ℕ
 object_lines name base object =
     object_line name base
-    ++ long_lines (further base (dat_offset object)) (longs_of object.dat)
-    ++ method_lines (slice_index (text_offsets object)) 1 (further base (codes_offset object)) object.methods
+    ++ long_lines (address_after base (dat_offset object)) (longs_of object.dat)
+    ++ method_lines (slice_index (text_offsets object)) 1 (address_after base (codes_offset object)) object.methods
 
 -- objects one after the other, each with the name of its file
 abbrev pub objects_lines : (base : ℕ) → (names : List (List ℕ)) → List ObjectPart → List ℕ
 objects_lines base (name ∷ names) (object ∷ objects) =
-    object_lines name base object ++ objects_lines (further base (size_of object)) names objects
+    object_lines name base object ++ objects_lines (address_after base (size_of object)) names objects
 objects_lines base _ _ = []
 
 -- the objects of a project, the top file's first. They stand after the image's header.

@@ -4,7 +4,7 @@ ghost use Rattle.std.specs.List.{flat_map};
 ghost use Rattle.p8_instr.specs.Numerals.{hex};
 ghost use Rattle.p8_image.specs.Listing.{line_size as line_size_of, code_line, code_lines};
 
-use crate::text::{behind, further, push_place};
+use crate::appending::{address_after, behind, push_place};
 use p8_bytecode::take_op;
 use p8_instr::{byte_digits, push_text};
 use p8_words::NoMemory;
@@ -51,7 +51,7 @@ pub fn push_code_lines(out: &mut Vec<u8>, place: u16, code: &[u8]) -> Result<(),
     while !rest.is_empty() {
         let size = line_size(rest);
         push_code_line(out, place, &rest[..size])?;
-        place = further(place, size);
+        place = address_after(place, size);
         rest = behind(rest, size);
     }
     Ok(())

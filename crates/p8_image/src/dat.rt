@@ -4,7 +4,7 @@ ghost use Rattle.p8_instr.specs.Instructions.{long_text};
 ghost use Rattle.p8_instr.specs.Numerals.{hex};
 ghost use Rattle.p8_image.specs.Listing.{long_by, long_line, long_lines, longs_of as longs_in};
 
-use crate::text::{further, push_place};
+use crate::appending::{address_after, push_place};
 use p8_instr::{instr_text, long_digits, push_text};
 use p8_words::NoMemory;
 use std::alloc::Global;
@@ -81,7 +81,7 @@ fn push_long_lines(
 {
     for long in longs {
         push_long_line(alloc, out, place, *long)?;
-        place = further(place, 4);
+        place = address_after(place, 4);
     }
     Ok(())
 }

@@ -1,6 +1,7 @@
 //! Images of programs: what a `.binary` file has to be, what starts from it, and the listing of a project.
 #![tactic(auto)]
 
+mod appending;
 mod bytes;
 mod clocks;
 mod code;
@@ -15,7 +16,6 @@ mod plan;
 mod project_image;
 mod project_listing;
 mod sizes;
-mod text;
 mod text_laws;
 
 pub use bytes::linked_codes;

@@ -6,12 +6,12 @@ ghost use Rattle.p8_image.specs.Layout.{codes_of, text_offsets};
 ghost use Rattle.p8_image.specs.Listing.{method_line, method_lines, object_line, object_lines};
 ghost use Rattle.p8_image.specs.Cutting.{cut_lines};
 
+use crate::appending::{address_after, behind, push_place};
 use crate::bytes::linked_codes;
 use crate::code::push_code_lines;
 use crate::dat::push_dat_lines;
 use crate::parts::{MethodPart, ObjectPart};
 use crate::sizes::Offsets;
-use crate::text::{behind, further, push_place};
 use itoa::Buffer;
 use p8_instr::push_text;
 use p8_words::NoMemory;
@@ -62,7 +62,7 @@ fn push_method_lines(
         let own = size.min(rest.len());
         push_method_line(out, index as u64 + 1, place)?;
         push_code_lines(out, place, &rest[..own])?;
-        place = further(place, size);
+        place = address_after(place, size);
         rest = behind(rest, own);
     }
     Ok(())
@@ -84,12 +84,12 @@ pub fn push_object_lines(
     push_dat_lines(
         alloc,
         out,
-        further(base, usize::from(offsets.dat)),
+        address_after(base, usize::from(offsets.dat)),
         object.dat.as_slice(),
     )?;
     push_method_lines(
         out,
-        further(base, usize::from(offsets.codes)),
+        address_after(base, usize::from(offsets.codes)),
         &codes,
         object.methods.as_slice(),
     )?;

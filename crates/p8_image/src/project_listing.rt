@@ -2,10 +2,10 @@
 ghost use Rattle.std.specs.Prelude.{◌≡◌, IfOk};
 ghost use Rattle.p8_image.specs.Listing.{listing_of};
 
+use crate::appending::address_after;
 use crate::objects::push_object_lines;
 use crate::parts::ObjectPart;
 use crate::sizes::Offsets;
-use crate::text::further;
 use p8_tree::Text;
 use p8_words::NoMemory;
 use std::alloc::Global;
@@ -31,7 +31,7 @@ pub fn listing(alloc: Global, names: &[Text], objects: &[ObjectPart]) -> Result<
             break;
         };
         push_object_lines(alloc, &mut out, name.as_slice(), base, object)?;
-        base = further(base, usize::from(Offsets::of(object).size));
+        base = address_after(base, usize::from(Offsets::of(object).size));
         names = behind;
         objects = others;
     }

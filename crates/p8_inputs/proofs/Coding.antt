@@ -23,8 +23,8 @@ use Rattle.p8_code.specs.Sources.{lines_of}
 use Rattle.p8_code.specs.Listing.{FileCode, code_of}
 use Rattle.p8_code.specs.Projects.{file_codes, IsCodeOf, IsShortCodeOf}
 use Rattle.p8_io.specs.Shelves.{Files, IsRead}
-use Rattle.p8_commands.specs.declared.kind.ImageKind.{ImageKind}
-use Rattle.p8_commands.specs.declared.kind.ImageKind.TheVariants as kind
+use Rattle.p8_commands.specs.declared.image_kind.ImageKind.{ImageKind}
+use Rattle.p8_commands.specs.declared.image_kind.ImageKind.TheVariants as kind
 use Rattle.p8_inputs.specs.Inputs.{IsProgram}
 use Rattle.p8_inputs.specs.Programs.{fault_of, format_of}
 use Rattle.p8_inputs.specs.Sources.{IsBuiltBy, IsCodeBy}

@@ -2,7 +2,7 @@
 use Rattle.std.proofs.Common.{◌≡◌, ◌∙◌, ◌++◌, ◌∷◌, [], ◌+◌, ℕ, List, ap₂, append_assoc, append-nil, ap, sym, drop, map}
 use Rattle.p8_tree.specs.declared.projects.ProjectFile.{ProjectFile}
 use Rattle.p8_tree.specs.Views.{named_source_of}
-use Rattle.p8_page.specs.declared.kind.Kind.TheVariants as kind
+use Rattle.p8_page.specs.declared.block_kind.BlockKind.TheVariants as kind
 use Rattle.p8_page.specs.Blocks.{block_text}
 use Rattle.p8_page.specs.Page.{blocks_text, source_blocks}
 use Rattle.p8_inputs.specs.Sources.{file_blocks}

@@ -1,8 +1,8 @@
 -- What was read for an ask, and for asks one after the other.
 use Rattle.std.proofs.Common.{◌≡◌, ℕ, inl, inr, refl, sym, subst, List, [], ◌∷◌, ◌++◌}
 use Rattle.p8_io.specs.Shelves.{Files, Log, WereRead}
-use Rattle.p8_commands.specs.declared.kind.ImageKind.{ImageKind}
-use Rattle.p8_commands.specs.declared.kind.ImageKind.TheVariants as kind
+use Rattle.p8_commands.specs.declared.image_kind.ImageKind.{ImageKind}
+use Rattle.p8_commands.specs.declared.image_kind.ImageKind.TheVariants as kind
 use Rattle.p8_objects.specs.Orders.{no_more}
 use Rattle.p8_objects.proofs.Logs.{nothing-read}
 use Rattle.p8_inputs.specs.declared.program.Format.{Format}

@@ -11,8 +11,8 @@ use Rattle.p8_image.specs.declared.faults.LoadFault.{LoadFault}
 use Rattle.p8_image.specs.declared.faults.LoadFault.TheVariants.{BadLength}
 use Rattle.p8_image.specs.Headers.{header_of}
 use Rattle.p8_image.specs.Loading.{first_fault, eeprom_fault, memory_of, binary_of, start_of}
-use Rattle.p8_commands.specs.declared.kind.ImageKind.{ImageKind}
-use Rattle.p8_commands.specs.declared.kind.ImageKind.TheVariants as kind
+use Rattle.p8_commands.specs.declared.image_kind.ImageKind.{ImageKind}
+use Rattle.p8_commands.specs.declared.image_kind.ImageKind.TheVariants as kind
 use Rattle.p8_commands.specs.Kinds.{kind_named}
 use Rattle.p8_inputs.specs.declared.program.Format.{Format}
 use Rattle.p8_inputs.specs.declared.program.Format.TheVariants.{Memory, Image, Eeprom, Source}

@@ -30,7 +30,7 @@ pub struct Viewed {
 
 /// The boot of what is run, with its legend.
 #[derive(Drop)]
-struct Told {
+struct BootWithLegend {
     boot: Boot,
     legend: Legend,
 }
@@ -48,7 +48,7 @@ pub(crate) fn no_legend(alloc: Global) -> Legend
 }
 
 /// The boot of a source's image, with its legend.
-fn source_told<S: Shelf>(alloc: Global, file: &str, shelf: &mut S) -> Result<Told, Stop>
+fn source_told<S: Shelf>(alloc: Global, file: &str, shelf: &mut S) -> Result<BootWithLegend, Stop>
     ensures boot { IfOk result (λ read. IsBootOf (S.files shelf.old) (Source false) file.now read.boot) }
     ensures proper { IfOk result (λ read. IsProperOrigin read.boot.first) }
     ensures legend { IfOk result (λ read. IsLegendFrom (S.files shelf.old) (Source false) file.now read.legend) }
@@ -60,14 +60,18 @@ fn source_told<S: Shelf>(alloc: Global, file: &str, shelf: &mut S) -> Result<Tol
 {
     let read = explained_in(alloc, file, shelf)?;
     let boot = binary_boot(alloc, &read.image)?;
-    Ok(Told {
+    Ok(BootWithLegend {
         boot,
         legend: read.legend,
     })
 }
 
 /// The boot of a program of which nothing is known: of any but a source whose code isn't short.
-fn other_told<S: Shelf>(alloc: Global, program: Program<'_>, shelf: &mut S) -> Result<Told, Stop>
+fn other_told<S: Shelf>(
+    alloc: Global,
+    program: Program<'_>,
+    shelf: &mut S,
+) -> Result<BootWithLegend, Stop>
     ensures boot { IfOk result (λ read. IsBootOf (S.files shelf.old) program.entry.format program.entry.file.now read.boot) }
     ensures proper { IfOk result (λ read. IsProperOrigin read.boot.first) }
     ensures legend { IfOk result (λ read. TellsNothing read.legend) }
@@ -78,14 +82,18 @@ fn other_told<S: Shelf>(alloc: Global, program: Program<'_>, shelf: &mut S) -> R
     ensures kept { S.files shelf.new ≡ S.files shelf.old }
 {
     let boot = boot_in(alloc, program, shelf)?;
-    Ok(Told {
+    Ok(BootWithLegend {
         boot,
         legend: no_legend(alloc),
     })
 }
 
 /// The boot of what is run, with its legend.
-fn program_told<S: Shelf>(alloc: Global, program: Program<'_>, shelf: &mut S) -> Result<Told, Stop>
+fn program_told<S: Shelf>(
+    alloc: Global,
+    program: Program<'_>,
+    shelf: &mut S,
+) -> Result<BootWithLegend, Stop>
     ensures boot { IfOk result (λ read. IsBootOf (S.files shelf.old) program.entry.format program.entry.file.now read.boot) }
     ensures proper { IfOk result (λ read. IsProperOrigin read.boot.first) }
     ensures legend { IfOk result (λ read. IsLegendFrom (S.files shelf.old) program.entry.format program.entry.file.now read.legend) }
@@ -140,7 +148,7 @@ fn told_with<S: Shelf>(
     program: Program<'_>,
     name: Option<&str>,
     shelf: &mut S,
-) -> Result<Told, Stop>
+) -> Result<BootWithLegend, Stop>
     ensures boot { IfOk result (λ read. IsBootOf (S.files shelf.old) program.entry.format program.entry.file.now read.boot) }
     ensures proper { IfOk result (λ read. IsProperOrigin read.boot.first) }
     ensures legend { IfOk result (λ read. IsLegendFrom (S.files shelf.old) program.entry.format program.entry.file.now read.legend) }

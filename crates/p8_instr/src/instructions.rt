@@ -3,11 +3,11 @@ ghost use Rattle.std.specs.Prelude.{◌≡◌, ◌++◌, nat_lt, if◌then◌els
 ghost use Rattle.p8_instr.specs.Instruction.{writes_result};
 ghost use Rattle.p8_instr.specs.Instructions.{condition_text, word_text, operands_text, effects_text, instruction_text, long_text};
 
+use crate::appending::push_text;
 use crate::conditions::condition_name;
 use crate::instruction::{ALWAYS, Instr, decode};
 use crate::mnemonics::mnemonic;
 use crate::numerals::register_digits;
-use crate::text::push_text;
 use p8_words::NoMemory;
 use std::alloc::Global;
 

@@ -447,7 +447,7 @@ impl Ledger {
 
     /// Notes in which span of the script the last turn was found, where that was looked for.
     #[inline(always)]
-    fn note(&mut self, searched: Option<Span>)
+    fn record_span(&mut self, searched: Option<Span>)
         ensures found { (w : World) (r : Record) → Found w self.old r → Found w self.new r }
         ensures made { (old : Ledger) (turn : Turn) (running : Bool) → HasMade old self.old turn running → HasMade old self.new turn running }
     {
@@ -605,7 +605,7 @@ impl Ledger {
                     bound: key.clock,
                 },
                 Some(made) => {
-                    self.note(searched);
+                    self.record_span(searched);
                     First::Done {
                         turn: made.turn,
                         running: made.running,
@@ -668,7 +668,7 @@ impl Ledger {
                 match self.grant(script, key) {
                     None => Taken::Ahead { bound: key.clock },
                     Some(made) => {
-                        self.note(searched);
+                        self.record_span(searched);
                         Taken::Done {
                             turn: made.turn,
                             running: made.running,

@@ -9,7 +9,7 @@ use Rattle.p8_kinds.specs.declared.name_kinds.Label.{Label}
 use Rattle.p8_map.specs.declared.names.MethodNames.{MethodNames}
 use Rattle.p8_map.specs.declared.names.FileNames.{FileNames}
 use Rattle.p8_legend.specs.declared.ranges.Range.{Range}
-use Rattle.p8_image.specs.Listing.{further}
+use Rattle.p8_image.specs.Listing.{address_after}
 use Rattle.p8_image.specs.Layout.{total, code_size, codes_offset, code_offset, size_of}
 use Rattle.p8_legend.specs.Ranges.{last_end}
 use Rattle.p8_map.specs.Map.{low}
@@ -99,7 +99,7 @@ module _ (t : List ℕ) (r : Range) where
   pub labels-keep : (n : Named) (prefix : List ℕ) (base codes_at : ℕ) (labels : List Label) → HasEntry n t r → HasEntry (with_labels n prefix base codes_at labels) t r
   labels-keep n prefix base codes_at [] h = h
   labels-keep n prefix base codes_at (label ∷ labels) h =
-      labels-keep (and_one n (further base label.offset) (label_end base codes_at labels) (prefix ++ label.name)) prefix base codes_at labels (one-keeps t r n (further base label.offset) (label_end base codes_at labels) (prefix ++ label.name) h)
+      labels-keep (and_one n (address_after base label.offset) (label_end base codes_at labels) (prefix ++ label.name)) prefix base codes_at labels (one-keeps t r n (address_after base label.offset) (label_end base codes_at labels) (prefix ++ label.name) h)
 
 module _ (base high : ℕ) (room : base + high < 65536) where
   -- where the next one begins, or the codes
@@ -123,15 +123,15 @@ module _ (base high : ℕ) (room : base + high < 65536) where
       let from = is.0 in
       let to = rise.0 in
       let last = rise-end label.offset high labels is.1 in
-      let begin : further base label.offset ≡ base + label.offset = omega (arith, room, last) in
-      labels-up (and_one n (further base label.offset) (label_end base (base + high) labels) (prefix ++ label.name)) prefix (next-offset labels) labels
-      (subst (IsUpTo (and_one n (further base label.offset) (label_end base (base + high) labels) (prefix ++ label.name))) end
-      (one-up n (further base label.offset) (label_end base (base + high) labels) (base + low) (prefix ++ label.name) up (omega (arith, begin, from)) (omega (arith, begin, end, to))))
+      let begin : address_after base label.offset ≡ base + label.offset = omega (arith, room, last) in
+      labels-up (and_one n (address_after base label.offset) (label_end base (base + high) labels) (prefix ++ label.name)) prefix (next-offset labels) labels
+      (subst (IsUpTo (and_one n (address_after base label.offset) (label_end base (base + high) labels) (prefix ++ label.name))) end
+      (one-up n (address_after base label.offset) (label_end base (base + high) labels) (base + low) (prefix ++ label.name) up (omega (arith, begin, from)) (omega (arith, begin, end, to))))
       rise.1
 
   module _ (t : List ℕ) (r : Range) where
     labels-has : (n : Named) (prefix : List ℕ) (low : ℕ) (labels : List Label) → IsUpTo n (base + low) → Rise low high labels → (k : ℕ) (label : Label) → slice_get labels k ≡ Some label
-        → t ≡ prefix ++ label.name → r ≡ record { address = further base label.offset; end = label_end base (base + high) (drop (suc k) labels) } → HasEntry (with_labels n prefix base (base + high) labels) t r
+        → t ≡ prefix ++ label.name → r ≡ record { address = address_after base label.offset; end = label_end base (base + high) (drop (suc k) labels) } → HasEntry (with_labels n prefix base (base + high) labels) t r
     labels-has n prefix low [] up is k label at text_is range_is = absurd (none-some label at)
     labels-has n prefix low (x ∷ labels) up is zero label at text_is range_is =
         let same = same_Some x label at in
@@ -140,20 +140,20 @@ module _ (base high : ℕ) (room : base + high < 65536) where
         let rise = next-rise x.offset labels is.1 in
         let to = rise.0 in
         let last = rise-end x.offset high labels is.1 in
-        let begin : further base x.offset ≡ base + x.offset = omega (arith, room, last) in
-        labels-keep t r (and_one n (further base x.offset) (label_end base (base + high) labels) (prefix ++ x.name)) prefix base (base + high) labels
-        (one-adds t r n (further base x.offset) (label_end base (base + high) labels) (base + low) (prefix ++ x.name) up (omega (arith, begin, from)) (text_is ∙ ap (λ (l : Label). prefix ++ l.name) (sym same))
-        (range_is ∙ ap (λ (l : Label). record { address = further base l.offset; end = label_end base (base + high) labels }) (sym same)) (omega (arith, begin, end, to)))
+        let begin : address_after base x.offset ≡ base + x.offset = omega (arith, room, last) in
+        labels-keep t r (and_one n (address_after base x.offset) (label_end base (base + high) labels) (prefix ++ x.name)) prefix base (base + high) labels
+        (one-adds t r n (address_after base x.offset) (label_end base (base + high) labels) (base + low) (prefix ++ x.name) up (omega (arith, begin, from)) (text_is ∙ ap (λ (l : Label). prefix ++ l.name) (sym same))
+        (range_is ∙ ap (λ (l : Label). record { address = address_after base l.offset; end = label_end base (base + high) labels }) (sym same)) (omega (arith, begin, end, to)))
     labels-has n prefix low (x ∷ labels) up is (suc k) label at text_is range_is =
         let end = next-end x.offset labels is.1 in
         let rise = next-rise x.offset labels is.1 in
         let from = is.0 in
         let to = rise.0 in
         let last = rise-end x.offset high labels is.1 in
-        let begin : further base x.offset ≡ base + x.offset = omega (arith, room, last) in
-        labels-has (and_one n (further base x.offset) (label_end base (base + high) labels) (prefix ++ x.name)) prefix (next-offset labels) labels
-        (subst (IsUpTo (and_one n (further base x.offset) (label_end base (base + high) labels) (prefix ++ x.name))) end
-        (one-up n (further base x.offset) (label_end base (base + high) labels) (base + low) (prefix ++ x.name) up (omega (arith, begin, from)) (omega (arith, begin, end, to))))
+        let begin : address_after base x.offset ≡ base + x.offset = omega (arith, room, last) in
+        labels-has (and_one n (address_after base x.offset) (label_end base (base + high) labels) (prefix ++ x.name)) prefix (next-offset labels) labels
+        (subst (IsUpTo (and_one n (address_after base x.offset) (label_end base (base + high) labels) (prefix ++ x.name))) end
+        (one-up n (address_after base x.offset) (label_end base (base + high) labels) (base + low) (prefix ++ x.name) up (omega (arith, begin, from)) (omega (arith, begin, end, to))))
         rise.1 k label at text_is range_is
 
 module _ (t : List ℕ) (r : Range) where
@@ -163,20 +163,20 @@ module _ (t : List ℕ) (r : Range) where
   methods-keep n prefix place [] methods h = h
   methods-keep n prefix place (m ∷ names) [] h = h
   methods-keep n prefix place (m ∷ names) (method ∷ methods) h =
-      methods-keep (and_one n place (further place (length method.code)) (prefix ++ m.name)) prefix (further place (length method.code)) names methods (one-keeps t r n place (further place (length method.code)) (prefix ++ m.name) h)
+      methods-keep (and_one n place (address_after place (length method.code)) (prefix ++ m.name)) prefix (address_after place (length method.code)) names methods (one-keeps t r n place (address_after place (length method.code)) (prefix ++ m.name) h)
 
 methods-up : (n : Named) (prefix : List ℕ) (place : ℕ) (names : List MethodNames) (methods : List MethodPart) → IsUpTo n place → place + total code_size methods < 65536
     → IsUpTo (with_methods n prefix place names methods) (place + total code_size methods)
 methods-up n prefix place [] methods up room = later n place (place + total code_size methods) (omega arith) up
 methods-up n prefix place (m ∷ names) [] up room = later n place (place + 0) (omega arith) up
 methods-up n prefix place (m ∷ names) (method ∷ methods) up room =
-    let next : further place (length method.code) ≡ place + length method.code = omega (arith, room) in
-    let more = and_one n place (further place (length method.code)) (prefix ++ m.name) in
+    let next : address_after place (length method.code) ≡ place + length method.code = omega (arith, room) in
+    let more = and_one n place (address_after place (length method.code)) (prefix ++ m.name) in
     let whole : place + length method.code + total code_size methods ≡ place + (length method.code + total code_size methods) = omega arith in
-    subst (IsUpTo (with_methods more prefix (further place (length method.code)) names methods)) whole
+    subst (IsUpTo (with_methods more prefix (address_after place (length method.code)) names methods)) whole
     (subst (λ p. IsUpTo (with_methods more prefix p names methods) (place + length method.code + total code_size methods)) (sym next)
     (methods-up more prefix (place + length method.code) names methods
-    (subst (IsUpTo more) next (one-up n place (further place (length method.code)) place (prefix ++ m.name) up (omega arith) (omega (arith, next)))) (omega (arith, room))))
+    (subst (IsUpTo more) next (one-up n place (address_after place (length method.code)) place (prefix ++ m.name) up (omega arith) (omega (arith, next)))) (omega (arith, room))))
 
 module _ (t : List ℕ) (r : Range) where
   methods-has : (n : Named) (prefix : List ℕ) (place : ℕ) (names : List MethodNames) (methods : List MethodPart) → IsUpTo n place → place + total code_size methods < 65536
@@ -187,16 +187,16 @@ module _ (t : List ℕ) (r : Range) where
   methods-has n prefix place (x ∷ names) (y ∷ methods) up room zero m method at there text_is begins ends =
       let one = same_Some x m at in
       let other = ap (λ (z : MethodPart). length z.code) (same_Some y method there) in
-      let next : further place (length y.code) ≡ place + length y.code = omega (arith, room) in
-      methods-keep t r (and_one n place (further place (length y.code)) (prefix ++ x.name)) prefix (further place (length y.code)) names methods
-      (one-adds t r n place (further place (length y.code)) place (prefix ++ x.name) up (omega arith) (text_is ∙ ap (λ (z : MethodNames). prefix ++ z.name) (sym one))
+      let next : address_after place (length y.code) ≡ place + length y.code = omega (arith, room) in
+      methods-keep t r (and_one n place (address_after place (length y.code)) (prefix ++ x.name)) prefix (address_after place (length y.code)) names methods
+      (one-adds t r n place (address_after place (length y.code)) place (prefix ++ x.name) up (omega arith) (text_is ∙ ap (λ (z : MethodNames). prefix ++ z.name) (sym one))
       (ap₂ (λ (a b : ℕ). record { address = a; end = b }) (omega (arith, begins)) (omega (arith, ends, other, next))) (omega (arith, next)))
   methods-has n prefix place (x ∷ names) (y ∷ methods) up room (suc k) m method at there text_is begins ends =
-      let next : further place (length y.code) ≡ place + length y.code = omega (arith, room) in
-      let more = and_one n place (further place (length y.code)) (prefix ++ x.name) in
+      let next : address_after place (length y.code) ≡ place + length y.code = omega (arith, room) in
+      let more = and_one n place (address_after place (length y.code)) (prefix ++ x.name) in
       subst (λ p. HasEntry (with_methods more prefix p names methods) t r) (sym next)
       (methods-has more prefix (place + length y.code) names methods
-      (subst (IsUpTo more) next (one-up n place (further place (length y.code)) place (prefix ++ x.name) up (omega arith) (omega (arith, next)))) (omega (arith, room))
+      (subst (IsUpTo more) next (one-up n place (address_after place (length y.code)) place (prefix ++ x.name) up (omega arith) (omega (arith, next)))) (omega (arith, room))
       k m method at there text_is (omega (arith, begins)) (omega (arith, ends)))
 
 -- ---- objects
@@ -209,7 +209,7 @@ pub object-up : (n : Named) (prefix : List ℕ) (base : ℕ) (names : FileNames)
     → IsUpTo (with_object n prefix base names object) (base + size_of object)
 object-up n prefix base names object up room rise =
     let high : ℕ = codes_offset object in
-    let codes : further base high ≡ base + high = omega (arith, room) in
+    let codes : address_after base high ≡ base + high = omega (arith, room) in
     let none : base ≡ base + 0 = omega arith in
     later (with_object n prefix base names object) (base + high + total code_size object.methods) (base + size_of object) (omega arith)
     (subst (λ p. IsUpTo (with_methods (with_labels n prefix base p names.labels) prefix p names.methods object.methods) (base + high + total code_size object.methods)) (sym codes)
@@ -219,27 +219,27 @@ object-up n prefix base names object up room rise =
 module _ (t : List ℕ) (r : Range) where
   object-keep : (n : Named) (prefix : List ℕ) (base : ℕ) (names : FileNames) (object : ObjectPart) → HasEntry n t r → HasEntry (with_object n prefix base names object) t r
   object-keep n prefix base names object h =
-      methods-keep t r (with_labels n prefix base (further base (codes_offset object)) names.labels) prefix (further base (codes_offset object)) names.methods object.methods
-      (labels-keep t r n prefix base (further base (codes_offset object)) names.labels h)
+      methods-keep t r (with_labels n prefix base (address_after base (codes_offset object)) names.labels) prefix (address_after base (codes_offset object)) names.methods object.methods
+      (labels-keep t r n prefix base (address_after base (codes_offset object)) names.labels h)
 
   pub object-label : (n : Named) (prefix : List ℕ) (base : ℕ) (names : FileNames) (object : ObjectPart) → IsUpTo n base → base + size_of object < 65536 → LabelsRise names object
       → (k : ℕ) (label : Label) → slice_get names.labels k ≡ Some label → t ≡ prefix ++ label.name
-      → r ≡ record { address = further base label.offset; end = label_end base (further base (codes_offset object)) (drop (suc k) names.labels) } → HasEntry (with_object n prefix base names object) t r
+      → r ≡ record { address = address_after base label.offset; end = label_end base (address_after base (codes_offset object)) (drop (suc k) names.labels) } → HasEntry (with_object n prefix base names object) t r
   object-label n prefix base names object up room rise k label at text_is range_is =
       let high : ℕ = codes_offset object in
-      let codes : further base high ≡ base + high = omega (arith, room) in
+      let codes : address_after base high ≡ base + high = omega (arith, room) in
       let none : base ≡ base + 0 = omega arith in
-      methods-keep t r (with_labels n prefix base (further base high) names.labels) prefix (further base high) names.methods object.methods
+      methods-keep t r (with_labels n prefix base (address_after base high) names.labels) prefix (address_after base high) names.methods object.methods
       (subst (λ p. HasEntry (with_labels n prefix base p names.labels) t r) (sym codes)
       (labels-has base high (omega (arith, room)) t r n prefix 0 names.labels (subst (IsUpTo n) none up) rise k label at text_is
-      (range_is ∙ ap (λ p. record { address = further base label.offset; end = label_end base p (drop (suc k) names.labels) }) codes)))
+      (range_is ∙ ap (λ p. record { address = address_after base label.offset; end = label_end base p (drop (suc k) names.labels) }) codes)))
 
   pub object-method : (n : Named) (prefix : List ℕ) (base : ℕ) (names : FileNames) (object : ObjectPart) → IsUpTo n base → base + size_of object < 65536 → LabelsRise names object
       → (k : ℕ) (m : MethodNames) (method : MethodPart) → slice_get names.methods k ≡ Some m → slice_get object.methods k ≡ Some method → t ≡ prefix ++ m.name
       → r.address ≡ base + code_offset object k → r.end ≡ base + code_offset object k + length method.code → HasEntry (with_object n prefix base names object) t r
   object-method n prefix base names object up room rise k m method at there text_is begins ends =
       let high : ℕ = codes_offset object in
-      let codes : further base high ≡ base + high = omega (arith, room) in
+      let codes : address_after base high ≡ base + high = omega (arith, room) in
       let none : base ≡ base + 0 = omega arith in
       subst (λ p. HasEntry (with_methods (with_labels n prefix base p names.labels) prefix p names.methods object.methods) t r) (sym codes)
       (methods-has t r (with_labels n prefix base (base + high) names.labels) prefix (base + high) names.methods object.methods
@@ -258,10 +258,10 @@ module _ (all_files : List FileNames) (parts : List ObjectPart) where
   objects-up n number base [] objects up room rise = later n base (base + total size_of objects) (omega arith) up
   objects-up n number base (names ∷ files) [] up room rise = later n base (base + 0) (omega arith) up
   objects-up n number base (names ∷ files) (object ∷ objects) up room rise =
-      let next : further base (size_of object) ≡ base + size_of object = omega (arith, room) in
+      let next : address_after base (size_of object) ≡ base + size_of object = omega (arith, room) in
       let more = with_object n (prefix_of number) base names object in
       let whole : base + size_of object + total size_of objects ≡ base + (size_of object + total size_of objects) = omega arith in
-      subst (IsUpTo (with_objects more all_files parts (number + 1) (further base (size_of object)) files objects)) whole
+      subst (IsUpTo (with_objects more all_files parts (number + 1) (address_after base (size_of object)) files objects)) whole
       (subst (λ p. IsUpTo (with_objects more all_files parts (number + 1) p files objects) (base + size_of object + total size_of objects)) (sym next)
       (objects-up more (number + 1) (base + size_of object) files objects (object-up n (prefix_of number) base names object up (omega (arith, room)) (rise 0 names object refl refl)) (omega (arith, room)) (λ k. rise (suc k))))
 
@@ -270,7 +270,7 @@ module _ (all_files : List FileNames) (parts : List ObjectPart) where
     objects-keep n number base [] objects h = h
     objects-keep n number base (names ∷ files) [] h = h
     objects-keep n number base (names ∷ files) (object ∷ objects) h =
-        objects-keep (with_object n (prefix_of number) base names object) (number + 1) (further base (size_of object)) files objects (object-keep t r n (prefix_of number) base names object h)
+        objects-keep (with_object n (prefix_of number) base names object) (number + 1) (address_after base (size_of object)) files objects (object-keep t r n (prefix_of number) base names object h)
 
     pub objects-has : (n : Named) (number base : ℕ) (files : List FileNames) (objects : List ObjectPart) → IsUpTo n base → base + total size_of objects < 65536 → AllRise files objects
         → (k : ℕ) (names : FileNames) (object : ObjectPart) → slice_get files k ≡ Some names → slice_get objects k ≡ Some object
@@ -285,14 +285,14 @@ module _ (all_files : List FileNames) (parts : List ObjectPart) where
         let none : base + 0 ≡ base = omega arith in
         let first : number + 0 ≡ number = omega arith in
         let size = ap size_of other in
-        objects-keep (with_object n (prefix_of number) base x y) (number + 1) (further base (size_of y)) files objects
+        objects-keep (with_object n (prefix_of number) base x y) (number + 1) (address_after base (size_of y)) files objects
         (subst (λ (z : FileNames). HasEntry (with_object n (prefix_of number) base z y) t r) (sym one)
         (subst (λ (z : ObjectPart). HasEntry (with_object n (prefix_of number) base names z) t r) (sym other)
         (subst (λ f. HasEntry (with_object n (prefix_of f) base names object) t r) first
         (subst (λ b. HasEntry (with_object n (prefix_of (number + 0)) b names object) t r) none
         (adds n (subst (IsUpTo n) (sym none) up) (omega (arith, room, size)))))))
     objects-has n number base (x ∷ files) (y ∷ objects) up room rise (suc k) names object at there adds =
-        let next : further base (size_of y) ≡ base + size_of y = omega (arith, room) in
+        let next : address_after base (size_of y) ≡ base + size_of y = omega (arith, room) in
         let more = with_object n (prefix_of number) base x y in
         let place : base + size_of y + total size_of (take k objects) ≡ base + (size_of y + total size_of (take k objects)) = omega arith in
         let count : number + 1 + k ≡ number + suc k = omega arith in

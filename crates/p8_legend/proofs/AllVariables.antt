@@ -8,7 +8,7 @@ use Rattle.p8_image.specs.declared.parts.ObjectPart.{ObjectPart}
 use Rattle.p8_map.specs.declared.names.FileNames.{FileNames}
 use Rattle.p8_legend.specs.declared.ranges.Range.{Range}
 use Rattle.p8_map.specs.declared.instances.Instance.{Instance}
-use Rattle.p8_image.specs.Listing.{further}
+use Rattle.p8_image.specs.Listing.{address_after}
 use Rattle.p8_image.specs.Layout.{total, variable_size, variable_offset, own_variables, variables_of}
 use Rattle.p8_map.specs.Map.{low, own_instance, one_inside, all_inside, with_inside, instances_within, sized_bytes, after_size}
 use Rattle.p8_legend.specs.ProjectLegends.{Named, and_if, with_sized, with_variables, with_instance, with_instances}
@@ -29,13 +29,13 @@ sized-up : (n : Named) (size place : ℕ) (prefix : List ℕ) (names : List (Lis
 sized-up n size place prefix [] vs up room = later n place (place + total (sized_bytes size) vs) (omega arith) up
 sized-up n size place prefix (name ∷ names) [] up room = later n place (place + 0) (omega arith) up
 sized-up n size place prefix (name ∷ names) (v ∷ vs) up room =
-    let next : further place (sized_bytes size v) ≡ place + sized_bytes size v = omega (arith, room) in
-    let more = and_if (v.size == size) n place (further place (sized_bytes size v)) (prefix ++ name) in
+    let next : address_after place (sized_bytes size v) ≡ place + sized_bytes size v = omega (arith, room) in
+    let more = and_if (v.size == size) n place (address_after place (sized_bytes size v)) (prefix ++ name) in
     let whole : place + sized_bytes size v + total (sized_bytes size) vs ≡ place + (sized_bytes size v + total (sized_bytes size) vs) = omega arith in
-    subst (IsUpTo (with_sized more size (further place (sized_bytes size v)) prefix names vs)) whole
+    subst (IsUpTo (with_sized more size (address_after place (sized_bytes size v)) prefix names vs)) whole
     (subst (λ p. IsUpTo (with_sized more size p prefix names vs) (place + sized_bytes size v + total (sized_bytes size) vs)) (sym next)
     (sized-up more size (place + sized_bytes size v) prefix names vs
-    (subst (IsUpTo more) next (up-if (v.size == size) n place (further place (sized_bytes size v)) (prefix ++ name) up (omega (arith, next)))) (omega (arith, room))))
+    (subst (IsUpTo more) next (up-if (v.size == size) n place (address_after place (sized_bytes size v)) (prefix ++ name) up (omega (arith, next)))) (omega (arith, room))))
 
 module _ (t : List ℕ) (r : Range) where
   keeps-if : (b : Bool) (n : Named) (address end : ℕ) (text : List ℕ) → HasEntry n t r → HasEntry (and_if b n address end text) t r
@@ -50,7 +50,7 @@ module _ (t : List ℕ) (r : Range) where
   sized-keep n size place prefix [] vs h = h
   sized-keep n size place prefix (name ∷ names) [] h = h
   sized-keep n size place prefix (name ∷ names) (v ∷ vs) h =
-      sized-keep (and_if (v.size == size) n place (further place (sized_bytes size v)) (prefix ++ name)) size (further place (sized_bytes size v)) prefix names vs (keeps-if (v.size == size) n place (further place (sized_bytes size v)) (prefix ++ name) h)
+      sized-keep (and_if (v.size == size) n place (address_after place (sized_bytes size v)) (prefix ++ name)) size (address_after place (sized_bytes size v)) prefix names vs (keeps-if (v.size == size) n place (address_after place (sized_bytes size v)) (prefix ++ name) h)
 
   sized-has : (n : Named) (size place : ℕ) (prefix : List ℕ) (names : List (List ℕ)) (vs : List Variable) → IsUpTo n place → place + total (sized_bytes size) vs < 65536
       → (k : ℕ) (name : List ℕ) (v : Variable) → slice_get names k ≡ Some name → slice_get vs k ≡ Some v → v.size ≡ size → t ≡ prefix ++ name
@@ -60,16 +60,16 @@ module _ (t : List ℕ) (r : Range) where
   sized-has n size place prefix (x ∷ names) (y ∷ vs) up room zero name v at there of text_is begins ends =
       let one = same_Some x name at in
       let other = ap (sized_bytes size) (same_Some y v there) in
-      let next : further place (sized_bytes size y) ≡ place + sized_bytes size y = omega (arith, room) in
-      sized-keep (and_if (y.size == size) n place (further place (sized_bytes size y)) (prefix ++ x)) size (further place (sized_bytes size y)) prefix names vs
-      (adds-if (y.size == size) n place (further place (sized_bytes size y)) (prefix ++ x) (same-size y.size size (ap (λ (z : Variable). z.size) (same_Some y v there) ∙ of)) up (text_is ∙ ap (λ z. prefix ++ z) (sym one))
+      let next : address_after place (sized_bytes size y) ≡ place + sized_bytes size y = omega (arith, room) in
+      sized-keep (and_if (y.size == size) n place (address_after place (sized_bytes size y)) (prefix ++ x)) size (address_after place (sized_bytes size y)) prefix names vs
+      (adds-if (y.size == size) n place (address_after place (sized_bytes size y)) (prefix ++ x) (same-size y.size size (ap (λ (z : Variable). z.size) (same_Some y v there) ∙ of)) up (text_is ∙ ap (λ z. prefix ++ z) (sym one))
       (ap₂ (λ (a b : ℕ). record { address = a; end = b }) (omega (arith, begins)) (omega (arith, ends, other, next))) (omega (arith, next)))
   sized-has n size place prefix (x ∷ names) (y ∷ vs) up room (suc k) name v at there of text_is begins ends =
-      let next : further place (sized_bytes size y) ≡ place + sized_bytes size y = omega (arith, room) in
-      let more = and_if (y.size == size) n place (further place (sized_bytes size y)) (prefix ++ x) in
+      let next : address_after place (sized_bytes size y) ≡ place + sized_bytes size y = omega (arith, room) in
+      let more = and_if (y.size == size) n place (address_after place (sized_bytes size y)) (prefix ++ x) in
       subst (λ p. HasEntry (with_sized more size p prefix names vs) t r) (sym next)
       (sized-has more size (place + sized_bytes size y) prefix names vs
-      (subst (IsUpTo more) next (up-if (y.size == size) n place (further place (sized_bytes size y)) (prefix ++ x) up (omega (arith, next)))) (omega (arith, room))
+      (subst (IsUpTo more) next (up-if (y.size == size) n place (address_after place (sized_bytes size y)) (prefix ++ x) up (omega (arith, next)))) (omega (arith, room))
       k name v at there of text_is (omega (arith, begins)) (omega (arith, ends)))
 
 -- ---- all variables of an instance
@@ -269,9 +269,9 @@ module _ (files : List FileNames) (objects : List ObjectPart)
   inside-follow within place prefix (name ∷ names) [] each room = omega arith
   inside-follow within place prefix (name ∷ names) (f ∷ instances) each room =
       let size = size-is f (omega (arith, room)) in
-      let next : further place (slice_index sizes f) ≡ place + V f = omega (arith, size, room) in
+      let next : address_after place (slice_index sizes f) ≡ place + V f = omega (arith, size, room) in
       let end : place + V f + total V instances ≡ place + (V f + total V instances) = omega arith in
-      follow-both objects place (place + V f) (place + (V f + total V instances)) (one_inside within (slice_index sizes f) place prefix name f) (all_inside within sizes (further place (slice_index sizes f)) prefix names instances)
+      follow-both objects place (place + V f) (place + (V f + total V instances)) (one_inside within (slice_index sizes f) place prefix name f) (all_inside within sizes (address_after place (slice_index sizes f)) prefix names instances)
       (one-follow within (slice_index sizes f) place prefix name f each (omega (arith, room)))
       (subst (λ p. Follow objects (place + V f) (place + (V f + total V instances)) (all_inside within sizes p prefix names instances)) (sym next)
       (subst (λ e. Follow objects (place + V f) e (all_inside within sizes (place + V f) prefix names instances)) end
@@ -295,10 +295,10 @@ module _ (files : List FileNames) (objects : List ObjectPart)
       by (Some names) None there each = omega arith
       by (Some names) (Some object) there each =
           let all = whole f object there in
-          let next : further place (own_variables object) ≡ place + own_variables object = omega (arith, all, room) in
+          let next : address_after place (own_variables object) ≡ place + own_variables object = omega (arith, all, room) in
           let end : place + own_variables object + total V object.instances ≡ place + V f = omega (arith, all) in
           let within = instances_within files objects sizes depth in
-          follow-both objects place (place + own_variables object) (place + V f) (own_instance prefix f place object.variables) (all_inside within sizes (further place (own_variables object)) prefix names.instances object.instances)
+          follow-both objects place (place + own_variables object) (place + V f) (own_instance prefix f place object.variables) (all_inside within sizes (address_after place (own_variables object)) prefix names.instances object.instances)
           (own-follow prefix f place object there)
           (subst (λ p. Follow objects (place + own_variables object) (place + V f) (all_inside within sizes p prefix names.instances object.instances)) (sym next)
           (subst (λ e. Follow objects (place + own_variables object) e (all_inside within sizes (place + own_variables object) prefix names.instances object.instances)) end
@@ -328,13 +328,13 @@ module _ (files : List FileNames) (objects : List ObjectPart)
       subst (λ z. In x (within (prefix ++ z ++ codes ".") f place)) (sym one)
       (subst (λ e. In x (within (prefix ++ name ++ codes ".") e place)) (sym other)
       (subst (λ p. In x (within (prefix ++ name ++ codes ".") g p)) none h)) in
-      in-front x (one_inside within (slice_index sizes f) place prefix y f) (all_inside within sizes (further place (slice_index sizes f)) prefix names instances)
+      in-front x (one_inside within (slice_index sizes f) place prefix y f) (all_inside within sizes (address_after place (slice_index sizes f)) prefix names instances)
       (one-in within (slice_index sizes f) place prefix y f (omega (arith, size, big, some)) x moved)
   inside-in within place prefix (y ∷ names) (f ∷ instances) room (suc k) name g at there some x h =
       let size = size-is f (omega (arith, room)) in
-      let next : further place (slice_index sizes f) ≡ place + V f = omega (arith, size, room) in
+      let next : address_after place (slice_index sizes f) ≡ place + V f = omega (arith, size, room) in
       let here : place + (V f + total V (take k instances)) ≡ place + V f + total V (take k instances) = omega arith in
-      in-back x (one_inside within (slice_index sizes f) place prefix y f) (all_inside within sizes (further place (slice_index sizes f)) prefix names instances)
+      in-back x (one_inside within (slice_index sizes f) place prefix y f) (all_inside within sizes (address_after place (slice_index sizes f)) prefix names instances)
       (subst (λ p. In x (all_inside within sizes p prefix names instances)) (sym next)
       (inside-in within (place + V f) prefix names instances (omega (arith, room)) k name g at there some x
       (subst (λ p. In x (within (prefix ++ name ++ codes ".") g p)) here h)))
@@ -348,11 +348,11 @@ module _ (files : List FileNames) (objects : List ObjectPart)
   deeper-in depth prefix f place names object at there room k name g at_name at_child some x h =
       let within = instances_within files objects sizes depth in
       let all = whole f object there in
-      let next : further place (own_variables object) ≡ place + own_variables object = omega (arith, all, room) in
+      let next : address_after place (own_variables object) ≡ place + own_variables object = omega (arith, all, room) in
       let opened : with_inside within sizes prefix f place (slice_get files f) (slice_get objects f) ≡ with_inside within sizes prefix f place (Some names) (Some object) =
       ap₂ (λ (a : Option FileNames) (b : Option ObjectPart). with_inside within sizes prefix f place a b) at there in
       subst (In x) (sym opened)
-      (in-back x (own_instance prefix f place object.variables) (all_inside within sizes (further place (own_variables object)) prefix names.instances object.instances)
+      (in-back x (own_instance prefix f place object.variables) (all_inside within sizes (address_after place (own_variables object)) prefix names.instances object.instances)
       (subst (λ p. In x (all_inside within sizes p prefix names.instances object.instances)) (sym next)
       (inside-in within (place + own_variables object) prefix names.instances object.instances (omega (arith, all, room)) k name g at_name at_child some x h)))
 
@@ -365,7 +365,7 @@ module _ (files : List FileNames) (objects : List ObjectPart)
       let opened : with_inside within sizes prefix f place (slice_get files f) (slice_get objects f) ≡ with_inside within sizes prefix f place (Some names) (Some object) =
       ap₂ (λ (a : Option FileNames) (b : Option ObjectPart). with_inside within sizes prefix f place a b) at there in
       subst (In x) (sym opened)
-      (in-front x (own_instance prefix f place object.variables) (all_inside within sizes (further place (own_variables object)) prefix names.instances object.instances) (by object.variables at_variable))
+      (in-front x (own_instance prefix f place object.variables) (all_inside within sizes (address_after place (own_variables object)) prefix names.instances object.instances) (by object.variables at_variable))
     where
       by : (more : List Variable) → slice_get more v ≡ Some variable → In (record { prefix = prefix; file = f; place = place }) (own_instance prefix f place more)
       by [] none = absurd (none-some variable none)

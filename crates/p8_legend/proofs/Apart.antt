@@ -5,7 +5,7 @@ use Rattle.std.specs.List.Sorted.{IsPartitionPoint, IsNonDecreasingBy}
 use Rattle.std.proofs.lemmas.Bool.{cases_lt}
 use Rattle.std.proofs.lemmas.Bool.Decides.{nat_tests}
 use Rattle.std.proofs.lemmas.Option.{slice_get_within, same_Some, none-some, get_or_from_slice_get}
-use Rattle.p8_legend.specs.declared.ranges.Found.{Found}
+use Rattle.p8_legend.specs.declared.ranges.FoundRange.{FoundRange}
 use Rattle.p8_legend.specs.declared.ranges.Range.{Range}
 use Rattle.p8_legend.specs.Ranges.{AreApart, last_end, holds, behind_one, found_at}
 use Rattle.p8_legend.specs.Finding.{Splits}
@@ -89,7 +89,7 @@ found-none (x ∷ ranges) address parts =
     ∙ ap (option_map behind_one) (found-none ranges address (behind_none x ranges address parts))
 
 -- what is found, where so many ranges and one more begin at or before the address
-abbrev pub found_by : (count address : ℕ) → Range → Option Found
+abbrev pub found_by : (count address : ℕ) → Range → Option FoundRange
 found_by count address r = if nat_lt address r.end then Some (record { number = count; offset = address - r.address }) else None
 
 inside : (address : ℕ) (r : Range) → r.address ≤ address → (if holds address r then Some (record { number = 0; offset = address - r.address }) else None) ≡ found_by 0 address r
@@ -105,7 +105,7 @@ pub found-some : (lowest : ℕ) (ranges : List Range) (address count : ℕ) (r :
 found-some lowest [] address count r apart parts at = absurd (none-some r at)
 found-some lowest (x ∷ ranges) address zero r apart parts at =
     let none = found-none ranges address (behind x ranges address 0 parts) in
-    ap (λ (rest : Option Found). if holds address x then Some (record { number = 0; offset = address - x.address }) else option_map behind_one rest) none
+    ap (λ (rest : Option FoundRange). if holds address x then Some (record { number = 0; offset = address - x.address }) else option_map behind_one rest) none
     ∙ inside address x (parts.before 0 x (omega arith) refl)
     ∙ ap (found_by 0 address) (same_Some x r at)
 found-some lowest (x ∷ []) address (suc count) r apart parts at = absurd (none-some r at)

@@ -18,7 +18,7 @@ use Rattle.p8_bytecode.specs.declared.op.Op.{Op}
 use Rattle.p8_bytecode.specs.Reading.{op_at, op_in}
 use Rattle.p8_bytecode.specs.Spelling.{spelled, IsOp}
 use Rattle.p8_bytecode.proofs.ReadBack.{read-back}
-use Rattle.p8_bcog.specs.declared.state.State.{State}
+use Rattle.p8_bcog.specs.declared.state.SpinState.{SpinState}
 use Rattle.p8_bcog.specs.Bytecodes.{bytecode, clocks, does_found, row}
 use Rattle.p8_bcog.specs.Code.{code_of, fetched}
 use Rattle.p8_bcog.specs.Counters.{IsAskedFrom}
@@ -86,7 +86,7 @@ added-fetched memory base places w v before has are adds op line there =
 -- ---- what is asked from an address
 
 -- one bytecode more
-pub one-more : (entered : Entered) (turns : List Turn) (done : ℕ) (s : State) (begin : ℕ) (left : List Turn) → lived done entered turns ≡ Goes s begin left
+pub one-more : (entered : Entered) (turns : List Turn) (done : ℕ) (s : SpinState) (begin : ℕ) (left : List Turn) → lived done entered turns ≡ Goes s begin left
     → lived (done + 1) entered turns ≡ played entered.cog (begin + clocks entered.memory s) (bytecode entered.memory entered.cog s) left
 unfolding after
 one-more entered turns done s begin left goes =
@@ -108,6 +108,6 @@ asked-by entered turns address op stands (done, s, begin, left, clock, access, g
       here = here;
       next = next;
       asks =
-          ap (λ (course : Course State). played entered.cog (begin + clocks entered.memory s) course left) (sym found)
+          ap (λ (course : Course SpinState). played entered.cog (begin + clocks entered.memory s) course left) (sym found)
           ∙ sym (one-more entered turns done s begin left goes) ∙ next;
     }

@@ -23,9 +23,9 @@ use Rattle.p8_build.specs.Parts.{method_parts, strings_of}
 use Rattle.p8_build.specs.Files.{CompiledFile}
 use Rattle.p8_build.specs.Builds.{AreCompiled, objects_from, objects_of, IsBuilt}
 use Rattle.p8_build.proofs.Wholes.{one_objects}
-use Rattle.p8_legend.specs.declared.table.Row.{Row}
+use Rattle.p8_legend.specs.declared.table.LineRow.{LineRow}
 use Rattle.p8_legend.specs.declared.table.LineTable.{LineTable}
-use Rattle.p8_image.specs.Listing.{further}
+use Rattle.p8_image.specs.Listing.{address_after}
 use Rattle.p8_legend.specs.Rows.{end_of, line_row, line_rows, code_rows, rows_from, codes_of, IsLineTable}
 use Rattle.p8_legend.specs.Covering.{HasRow}
 use Rattle.p8_legend.specs.Lines.{begins_from}
@@ -33,16 +33,16 @@ use Rattle.p8_legend.proofs.LinesApart.{next-is, no-lines, bytes_in, AreAllTiled
 
 -- ---- rows among more
 
-front-get : (xs ys : List Row) (n : ℕ) (row : Row) → slice_get xs n ≡ Some row → slice_get (xs ++ ys) n ≡ Some row
+front-get : (xs ys : List LineRow) (n : ℕ) (row : LineRow) → slice_get xs n ≡ Some row → slice_get (xs ++ ys) n ≡ Some row
 front-get [] ys n row is = absurd (none-some row is)
 front-get (x ∷ xs) ys zero row is = is
 front-get (x ∷ xs) ys (suc n) row is = front-get xs ys n row is
 
-back-get : (xs ys : List Row) (n : ℕ) (row : Row) → slice_get ys n ≡ Some row → (m : ℕ) × (slice_get (xs ++ ys) m ≡ Some row)
+back-get : (xs ys : List LineRow) (n : ℕ) (row : LineRow) → slice_get ys n ≡ Some row → (m : ℕ) × (slice_get (xs ++ ys) m ≡ Some row)
 back-get [] ys n row is = (n, is)
 back-get (x ∷ xs) ys n row is = let found = back-get xs ys n row is in (suc found.0, found.1)
 
-in-front : (xs ys : List Row) (address file method : ℕ) → HasRow xs address file method → HasRow (xs ++ ys) address file method
+in-front : (xs ys : List LineRow) (address file method : ℕ) → HasRow xs address file method → HasRow (xs ++ ys) address file method
 in-front xs ys address file method h = record {
   row = h.row;
   is_at = record { number = h.is_at.number; stands = front-get xs ys h.is_at.number h.row h.is_at.stands; begins = h.is_at.begins; ends = h.is_at.ends };
@@ -50,7 +50,7 @@ in-front xs ys address file method h = record {
   method_is = h.method_is;
 }
 
-behind : (xs ys : List Row) (address file method : ℕ) → HasRow ys address file method → HasRow (xs ++ ys) address file method
+behind : (xs ys : List LineRow) (address file method : ℕ) → HasRow ys address file method → HasRow (xs ++ ys) address file method
 behind xs ys address file method h =
     let found = back-get xs ys h.is_at.number h.row h.is_at.stands in
     record {
@@ -74,8 +74,8 @@ module _ (file method at size : ℕ) (room : at + size < 65536) where
       let rest : map (λ (line : Line). line.offset) lines ≡ begins_from (begin + length (spelled op)) ops = ap (drop 1) begins in
       let left : size ≡ begin + length (spelled op) + length (flat_map spelled ops) = omega (arith, ends, long) in
       let next : end_of size lines ≡ begin + length (spelled op) = next-is size (begin + length (spelled op)) lines ops rest left in
-      let first : further at line.offset ≡ at + begin = omega (arith, here, room, ends, long) in
-      let last : further at (end_of size lines) ≡ at + (begin + length (spelled op)) = omega (arith, next, room, left) in
+      let first : address_after at line.offset ≡ at + begin = omega (arith, here, room, ends, long) in
+      let last : address_after at (end_of size lines) ≡ at + (begin + length (spelled op)) = omega (arith, next, room, left) in
       elim (cases_lt o (begin + length (spelled op))) [
         | inl within ↦ record {
           row = line_row file method at (end_of size lines) line;
@@ -99,14 +99,14 @@ cover-codes file method at (c ∷ codes) all room zero code there o less =
     let own = cover-lines file method at (length c.bytes) (omega (arith, room)) 0 c.lines t.ops t.begins size o (omega arith) (omega (arith, less, same)) in
     let place : at + o ≡ at + 0 + o = omega arith in
     let number : method ≡ method + 0 = omega arith in
-    in-front (line_rows file method at (length c.bytes) c.lines) (code_rows file (method + 1) (further at (length c.bytes)) codes) (at + 0 + o) file (method + 0)
+    in-front (line_rows file method at (length c.bytes) c.lines) (code_rows file (method + 1) (address_after at (length c.bytes)) codes) (at + 0 + o) file (method + 0)
     (subst (λ a. HasRow (line_rows file method at (length c.bytes) c.lines) a file (method + 0)) place (subst (HasRow (line_rows file method at (length c.bytes) c.lines) (at + o) file) number own))
 cover-codes file method at (c ∷ codes) all room (suc k) code there o less =
-    let next : further at (length c.bytes) ≡ at + length c.bytes = omega (arith, room) in
+    let next : address_after at (length c.bytes) ≡ at + length c.bytes = omega (arith, room) in
     let others = cover-codes file (method + 1) (at + length c.bytes) codes (λ j x is. all (suc j) x is) (omega (arith, room)) k code there o less in
     let place : at + length c.bytes + total bytes_in (take k codes) + o ≡ at + (length c.bytes + total bytes_in (take k codes)) + o = omega arith in
     let number : method + 1 + k ≡ method + suc k = omega arith in
-    let rest : List Row = code_rows file (method + 1) (further at (length c.bytes)) codes in
+    let rest : List LineRow = code_rows file (method + 1) (address_after at (length c.bytes)) codes in
     behind (line_rows file method at (length c.bytes) c.lines) rest (at + (length c.bytes + total bytes_in (take k codes)) + o) file (method + suc k)
     (subst (λ a. HasRow rest a file (method + suc k)) place
     (subst (HasRow rest (at + length c.bytes + total bytes_in (take k codes) + o) file) number
@@ -120,25 +120,25 @@ cover-objects file base (x ∷ objects) [] are room i object codes at_o at_c k c
 cover-objects file base (x ∷ objects) (cs ∷ others) are room zero object codes at_o at_c k code there o less =
     let same = are.1 in
     let held : codes_offset x + total bytes_in cs ≤ size_of x = omega (arith, same) in
-    let first : further base (codes_offset x) ≡ base + codes_offset x = omega (arith, held, room) in
+    let first : address_after base (codes_offset x) ≡ base + codes_offset x = omega (arith, held, room) in
     let here : slice_get cs k ≡ Some code = ap (λ ys. slice_get ys k) (same_Some cs codes at_c) ∙ there in
     let own = cover-codes file 1 (base + codes_offset x) cs are.0 (omega (arith, held, room)) k code here o less in
     let place : base + codes_offset x + total bytes_in (take k cs) + o ≡ base + (codes_offset x + total bytes_in (take k cs)) + o = omega arith in
     let number : file ≡ file + 0 = omega arith in
-    let rows : List Row = code_rows file 1 (further base (codes_offset x)) cs in
+    let rows : List LineRow = code_rows file 1 (address_after base (codes_offset x)) cs in
     subst (λ (y : ObjectPart). HasRow (rows_from file base (x ∷ objects) (cs ∷ others)) (base + (codes_offset y + total bytes_in (take k codes)) + o) (file + 0) (1 + k)) (same_Some x object at_o)
     (subst (λ (ys : List MethodCode). HasRow (rows_from file base (x ∷ objects) (cs ∷ others)) (base + (codes_offset x + total bytes_in (take k ys)) + o) (file + 0) (1 + k)) (same_Some cs codes at_c)
-    (in-front rows (rows_from (file + 1) (further base (size_of x)) objects others) (base + (codes_offset x + total bytes_in (take k cs)) + o) (file + 0) (1 + k)
+    (in-front rows (rows_from (file + 1) (address_after base (size_of x)) objects others) (base + (codes_offset x + total bytes_in (take k cs)) + o) (file + 0) (1 + k)
     (subst (λ a. HasRow rows a (file + 0) (1 + k)) place
     (subst (λ f. HasRow rows (base + codes_offset x + total bytes_in (take k cs) + o) f (1 + k)) number
     (subst (λ n. HasRow (code_rows file 1 n cs) (base + codes_offset x + total bytes_in (take k cs) + o) file (1 + k)) (sym first) own)))))
 cover-objects file base (x ∷ objects) (cs ∷ others) are room (suc i) object codes at_o at_c k code there o less =
-    let next : further base (size_of x) ≡ base + size_of x = omega (arith, room) in
+    let next : address_after base (size_of x) ≡ base + size_of x = omega (arith, room) in
     let rest = cover-objects (file + 1) (base + size_of x) objects others are.2 (omega (arith, room)) i object codes at_o at_c k code there o less in
     let address : ℕ = slice_index (places_from size_of (base + size_of x) objects) i + (codes_offset object + total bytes_in (take k codes)) + o in
     let number : file + 1 + i ≡ file + suc i = omega arith in
-    behind (code_rows file 1 (further base (codes_offset x)) cs) (rows_from (file + 1) (further base (size_of x)) objects others) address (file + suc i) (1 + k)
-    (subst (λ f. HasRow (rows_from (file + 1) (further base (size_of x)) objects others) address f (1 + k)) number
+    behind (code_rows file 1 (address_after base (codes_offset x)) cs) (rows_from (file + 1) (address_after base (size_of x)) objects others) address (file + suc i) (1 + k)
+    (subst (λ f. HasRow (rows_from (file + 1) (address_after base (size_of x)) objects others) address f (1 + k)) number
     (subst (λ n. HasRow (rows_from (file + 1) n objects others) address (file + 1 + i) (1 + k)) (sym next) rest))
 
 -- ---- an object's methods have the bytes of their codes
@@ -201,7 +201,7 @@ table-covers files view clock objects table built is i object at k method at_m o
     let file : 0 + i ≡ i = omega arith in
     let number : 1 + k ≡ k + 1 = omega arith in
     let bytes : total bytes_in (take k found.0) ≡ total code_size (take k object.methods) = sym (same-totals object.methods found.0 found.2.bytes k) in
-    subst (λ (rows : List Row). HasRow rows (slice_index (bases_of objects) i + code_offset object k + o) i (k + 1)) (sym is.rows)
+    subst (λ (rows : List LineRow). HasRow rows (slice_index (bases_of objects) i + code_offset object k + o) i (k + 1)) (sym is.rows)
     (subst (λ (os : List ObjectPart). HasRow (rows_from 0 16 all (codes_of is.compiled)) (slice_index (bases_of os) i + code_offset object k + o) i (k + 1)) (sym objects-same)
     (subst (λ n. HasRow (rows_from 0 16 all (codes_of is.compiled)) (slice_index (bases_of all) i + (codes_offset object + n) + o) i (k + 1)) bytes
     (subst (HasRow (rows_from 0 16 all (codes_of is.compiled)) (slice_index (bases_of all) i + (codes_offset object + total bytes_in (take k found.0)) + o) i) number

@@ -20,7 +20,7 @@ use Rattle.p8_dat.specs.Names.{regions}
 use Rattle.p8_dat.specs.Spots.{limit, begun, behind, placed}
 use Rattle.p8_image.specs.declared.parts.ObjectPart.{ObjectPart}
 use Rattle.p8_image.specs.Layout.{total, codes_offset, dat_offset, size_of, header_by}
-use Rattle.p8_image.specs.Listing.{further}
+use Rattle.p8_image.specs.Listing.{address_after}
 use Rattle.p8_image.specs.Places.{base_of}
 use Rattle.p8_image.specs.Projects.{FitsHub}
 use Rattle.p8_build.specs.Parts.{AreProper, strings_of, data_start}
@@ -32,7 +32,7 @@ use Rattle.p8_opt.proofs.Labelled.{lines_size, regions-fit, parted, placed-prope
 use Rattle.p8_map.specs.declared.names.FileNames.{FileNames}
 use Rattle.p8_map.specs.Projects.{names_of}
 use Rattle.p8_legend.specs.declared.legend.Legend.{Legend}
-use Rattle.p8_legend.specs.declared.ranges.Found.{Found}
+use Rattle.p8_legend.specs.declared.ranges.FoundRange.{FoundRange}
 use Rattle.p8_legend.specs.declared.ranges.Range.{Range}
 use Rattle.p8_legend.specs.declared.ranges.Ranges.{Ranges}
 use Rattle.p8_legend.specs.DatLines.{HasAddress, dats_of, line_end, line_text, next_begin, with_dat, with_dats}
@@ -69,8 +69,8 @@ text-as name line = append_assoc name (codes ":") (decimal line.place.line)
 as-labels : (n : Named) (name : List ℕ) (base codes_at : ℕ) (lines : List LineBegin) → with_dat n name base codes_at lines ≡ with_labels n name base codes_at (labels_for lines)
 as-labels n name base codes_at [] = refl
 as-labels n name base codes_at (line ∷ lines) =
-    ap₂ (λ (e : ℕ) (t : List ℕ). with_dat (and_one n (further base line.offset) e t) name base codes_at lines) (ends-as base codes_at lines) (text-as name line)
-    ∙ as-labels (and_one n (further base line.offset) (label_end base codes_at (labels_for lines)) (name ++ (label_for line).name)) name base codes_at lines
+    ap₂ (λ (e : ℕ) (t : List ℕ). with_dat (and_one n (address_after base line.offset) e t) name base codes_at lines) (ends-as base codes_at lines) (text-as name line)
+    ∙ as-labels (and_one n (address_after base line.offset) (label_end base codes_at (labels_for lines)) (name ++ (label_for line).name)) name base codes_at lines
 
 dropped : (k : ℕ) (lines : List LineBegin) → drop k (labels_for lines) ≡ labels_for (drop k lines)
 dropped zero lines = refl
@@ -85,14 +85,14 @@ LinesRise object lines = Rise 0 (codes_offset object) (labels_for lines)
 -- the range of a line of an object at a base, before these
 abbrev range_before : (base : ℕ) → ObjectPart → LineBegin → (rest : List LineBegin) → Range
 range_before base object line rest = record {
-  address = further base line.offset;
-  end = label_end base (further base (codes_offset object)) (labels_for rest);
+  address = address_after base line.offset;
+  end = label_end base (address_after base (codes_offset object)) (labels_for rest);
 }
 
 dat-up : (n : Named) (name : List ℕ) (base : ℕ) (object : ObjectPart) (lines : List LineBegin) → IsUpTo n base → base + size_of object < 65536 → LinesRise object lines
-    → IsUpTo (with_dat n name base (further base (codes_offset object)) lines) (base + size_of object)
+    → IsUpTo (with_dat n name base (address_after base (codes_offset object)) lines) (base + size_of object)
 dat-up n name base object lines up room rise =
-    subst (λ (m : Named). IsUpTo m (base + size_of object)) (sym (as-labels n name base (further base (codes_offset object)) lines))
+    subst (λ (m : Named). IsUpTo m (base + size_of object)) (sym (as-labels n name base (address_after base (codes_offset object)) lines))
     (object-up n name base (file_with name lines) object up room rise)
 
 module _ (t : List ℕ) (r : Range) where
@@ -102,12 +102,12 @@ module _ (t : List ℕ) (r : Range) where
 
   dat-has : (n : Named) (name : List ℕ) (base : ℕ) (object : ObjectPart) (lines : List LineBegin) → IsUpTo n base → base + size_of object < 65536 → LinesRise object lines
       → (k : ℕ) (line : LineBegin) → slice_get lines k ≡ Some line → t ≡ line_text name line → r ≡ range_before base object line (drop (suc k) lines)
-      → HasEntry (with_dat n name base (further base (codes_offset object)) lines) t r
+      → HasEntry (with_dat n name base (address_after base (codes_offset object)) lines) t r
   dat-has n name base object lines up room rise k line at text_is range_is =
-      let codes_at : ℕ = further base (codes_offset object) in
+      let codes_at : ℕ = address_after base (codes_offset object) in
       subst (λ (m : Named). HasEntry m t r) (sym (as-labels n name base codes_at lines))
       (object-label t r n name base (file_with name lines) object up room rise k (label_for line) (slice_get-map label_for lines k ∙ ap (option_map label_for) at) (text_is ∙ text-as name line)
-      (range_is ∙ ap (λ (rest : List Label). record { address = further base line.offset; end = label_end base codes_at rest }) (sym (dropped (suc k) lines))))
+      (range_is ∙ ap (λ (rest : List Label). record { address = address_after base line.offset; end = label_end base codes_at rest }) (sym (dropped (suc k) lines))))
 
 -- ---- those of all objects
 
@@ -120,8 +120,8 @@ module _ (t : List ℕ) (r : Range) where
   dats-keep n base (names ∷ files) [] others h = h
   dats-keep n base (names ∷ files) (object ∷ parts) [] h = h
   dats-keep n base (names ∷ files) (object ∷ parts) (lines ∷ others) h =
-      dats-keep (with_dat n names.file base (further base (codes_offset object)) lines) (further base (size_of object)) files parts others
-      (dat-keep t r n names.file base (further base (codes_offset object)) lines h)
+      dats-keep (with_dat n names.file base (address_after base (codes_offset object)) lines) (address_after base (size_of object)) files parts others
+      (dat-keep t r n names.file base (address_after base (codes_offset object)) lines h)
 
   dats-has : (n : Named) (base : ℕ) (files : List FileNames) (parts : List ObjectPart) (others : List (List LineBegin)) → IsUpTo n base → base + total size_of parts < 65536 → AllLinesRise parts others
       → (f : ℕ) (names : FileNames) (object : ObjectPart) (lines : List LineBegin) → slice_get files f ≡ Some names → slice_get parts f ≡ Some object → slice_get others f ≡ Some lines
@@ -135,14 +135,14 @@ module _ (t : List ℕ) (r : Range) where
       let one : x ≡ names = same_Some x names at in
       let two : y ≡ object = same_Some y object there in
       let three : z ≡ lines = same_Some z lines its in
-      dats-keep (with_dat n x.file base (further base (codes_offset y)) z) (further base (size_of y)) files parts others
+      dats-keep (with_dat n x.file base (address_after base (codes_offset y)) z) (address_after base (size_of y)) files parts others
       (dat-has t r n x.file base y z up (omega (arith, room)) (rise 0 y z refl refl) k line (ap (λ (ls : List LineBegin). slice_get ls k) three ∙ is)
       (text_is ∙ ap (λ (m : FileNames). line_text m.file line) (sym one))
       (range_is ∙ ap (λ (b : ℕ). range_before b object line (drop (suc k) lines)) none
       ∙ ap₂ (λ (o : ObjectPart) (ls : List LineBegin). range_before base o line (drop (suc k) ls)) (sym two) (sym three)))
   dats-has n base (x ∷ files) (y ∷ parts) (z ∷ others) up room rise (suc f) names object lines at there its k line is text_is range_is =
-      let next : further base (size_of y) ≡ base + size_of y = omega (arith, room) in
-      let more : Named = with_dat n x.file base (further base (codes_offset y)) z in
+      let next : address_after base (size_of y) ≡ base + size_of y = omega (arith, room) in
+      let more : Named = with_dat n x.file base (address_after base (codes_offset y)) z in
       let place : base + (size_of y + total size_of (take f parts)) ≡ base + size_of y + total size_of (take f parts) = omega arith in
       subst (λ (b : ℕ). HasEntry (with_dats more b files parts others) t r) (sym next)
       (dats-has more (base + size_of y) files parts others (dat-up n x.file base y z up (omega (arith, room)) (rise 0 y z refl refl)) (omega (arith, room)) (λ j. rise (suc j)) f names object lines at there its
@@ -229,7 +229,7 @@ entry-above lowest (x ∷ ranges) apart (suc n) r at =
     omega (arith, from, some, rest)
 
 found-entry : (lowest : ℕ) (ranges : List Range) → AreApart lowest ranges → (n : ℕ) (r : Range) → slice_get ranges n ≡ Some r → (address : ℕ) → r.address ≤ address → address < r.end
-    → (found : Found) × (found_at ranges address ≡ Some found) × (found.number ≡ n)
+    → (found : FoundRange) × (found_at ranges address ≡ Some found) × (found.number ≡ n)
 found-entry lowest [] apart n r at address from to = absurd (none-some r at)
 found-entry lowest (x ∷ ranges) apart zero r at address from to =
     let same : x ≡ r = same_Some x r at in
@@ -249,7 +249,7 @@ entry-told places t r h address from to =
 -- ---- what is told
 
 -- where a line before these ends, by where the next one begins
-end-is : (base high low : ℕ) (rest : List LineBegin) → Rise low high (labels_for rest) → base + high < 65536 → label_end base (further base high) (labels_for rest) ≡ base + next_begin high rest
+end-is : (base high low : ℕ) (rest : List LineBegin) → Rise low high (labels_for rest) → base + high < 65536 → label_end base (address_after base high) (labels_for rest) ≡ base + next_begin high rest
 end-is base high low [] rise room = omega (arith, room)
 end-is base high low (line ∷ rest) rise room = let last = rise-end line.offset high (labels_for rest) rise.1 in omega (arith, room, last)
 

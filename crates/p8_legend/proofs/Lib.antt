@@ -1,5 +1,5 @@
 mod Apart
-mod Further
+mod Addresses
 mod Finding
 mod Examples
 mod Pathways

@@ -20,8 +20,8 @@ use Rattle.p8_build.specs.Builds.{objects_of}
 use Rattle.p8_build.specs.Files.{CompiledFile, method_names}
 use Rattle.p8_build.proofs.Lists.{element}
 use Rattle.p8_legend.specs.declared.table.LineTable.{LineTable}
-use Rattle.p8_legend.specs.declared.table.Row.{Row}
-use Rattle.p8_image.specs.Listing.{further}
+use Rattle.p8_legend.specs.declared.table.LineRow.{LineRow}
+use Rattle.p8_image.specs.Listing.{address_after}
 use Rattle.p8_legend.specs.Rows.{end_of, line_row, line_rows, code_rows, rows_from, codes_of, IsLineTable}
 use Rattle.p8_legend.specs.Lines.{places_of_body}
 use Rattle.p8_legend.specs.Origins.{IsPlaceIn, IsRowOf}
@@ -33,7 +33,7 @@ AllMade P lines = All (λ (line : Line). P line.statement) lines
 
 -- a property of rows, by the numbers of file and method, and the place
 module _ (Q : (file method : ℕ) → Place → Type 0) where
-  abbrev Fits : Row → Type 0
+  abbrev Fits : LineRow → Type 0
   Fits row = Q row.file row.method row.place
 
   lines-fit : (file method at size : ℕ) (lines : List Line) → AllMade (Q file method) lines → All Fits (line_rows file method at size lines)
@@ -46,9 +46,9 @@ module _ (Q : (file method : ℕ) → Place → Type 0) where
   codes-fit file method at [] each = All-nil Fits
   codes-fit file method at (code ∷ codes) each =
       let here : method + 0 ≡ method = omega arith in
-      All-append Fits (line_rows file method at (length code.bytes) code.lines) (code_rows file (method + 1) (further at (length code.bytes)) codes)
+      All-append Fits (line_rows file method at (length code.bytes) code.lines) (code_rows file (method + 1) (address_after at (length code.bytes)) codes)
       (lines-fit file method at (length code.bytes) code.lines (subst (λ m. AllMade (Q file m) code.lines) here (each 0 code refl)))
-      (codes-fit file (method + 1) (further at (length code.bytes)) codes (λ k c there. subst (λ m. AllMade (Q file m) c.lines) (next method k) (each (suc k) c there)))
+      (codes-fit file (method + 1) (address_after at (length code.bytes)) codes (λ k c there. subst (λ m. AllMade (Q file m) c.lines) (next method k) (each (suc k) c there)))
     where
       next : (m k : ℕ) → m + suc k ≡ m + 1 + k
       next m k = omega arith
@@ -59,9 +59,9 @@ module _ (Q : (file method : ℕ) → Place → Type 0) where
   objects-fit file base (object ∷ objects) [] each = All-nil Fits
   objects-fit file base (object ∷ objects) (codes ∷ others) each =
       let here : file + 0 ≡ file = omega arith in
-      All-append Fits (code_rows file 1 (further base (codes_offset object)) codes) (rows_from (file + 1) (further base (size_of object)) objects others)
-      (codes-fit file 1 (further base (codes_offset object)) codes (λ k c there. subst (λ f. AllMade (Q f (1 + k)) c.lines) here (each 0 codes refl k c there)))
-      (objects-fit (file + 1) (further base (size_of object)) objects others (λ i cs at k c there. subst (λ f. AllMade (Q f (1 + k)) c.lines) (next file i) (each (suc i) cs at k c there)))
+      All-append Fits (code_rows file 1 (address_after base (codes_offset object)) codes) (rows_from (file + 1) (address_after base (size_of object)) objects others)
+      (codes-fit file 1 (address_after base (codes_offset object)) codes (λ k c there. subst (λ f. AllMade (Q f (1 + k)) c.lines) here (each 0 codes refl k c there)))
+      (objects-fit (file + 1) (address_after base (size_of object)) objects others (λ i cs at k c there. subst (λ f. AllMade (Q f (1 + k)) c.lines) (next file i) (each (suc i) cs at k c there)))
     where
       next : (f i : ℕ) → f + suc i ≡ f + 1 + i
       next f i = omega arith

@@ -26,31 +26,31 @@ use Rattle.p8_build.specs.Files.{CompiledFile, IsCompiled, method_names}
 use Rattle.p8_build.specs.Builds.{AreCompiled, objects_from, objects_of, IsBuilt}
 use Rattle.p8_build.proofs.Lists.{element}
 use Rattle.p8_build.proofs.Wholes.{one_objects}
-use Rattle.p8_legend.specs.declared.table.Row.{Row}
+use Rattle.p8_legend.specs.declared.table.LineRow.{LineRow}
 use Rattle.p8_legend.specs.declared.table.LineTable.{LineTable}
-use Rattle.p8_image.specs.Listing.{further}
+use Rattle.p8_image.specs.Listing.{address_after}
 use Rattle.p8_legend.specs.Rows.{end_of, line_rows, code_rows, rows_from, codes_of, IsLineTable, AreApart}
 use Rattle.p8_legend.specs.Lines.{begin_of, begins_from}
 use Rattle.p8_legend.proofs.Lined.{lines-begin}
 
 -- rows that stand one after the other, from an address up to another one
-abbrev pub Follow : (low high : ℕ) → List Row → Type 0
+abbrev pub Follow : (low high : ℕ) → List LineRow → Type 0
 Follow low high [] = low ≤ high
 Follow low high (row ∷ rows) = (low ≤ row.address) × (row.address < row.end) × Follow row.end high rows
 
-lower : (low start high : ℕ) (rows : List Row) → start ≤ low → Follow low high rows → Follow start high rows
+lower : (low start high : ℕ) (rows : List LineRow) → start ≤ low → Follow low high rows → Follow start high rows
 lower low start high [] less is = omega (arith, less, is)
 lower low start high (row ∷ rows) less is = let begins = is.0 in (omega (arith, less, begins), is.1, is.2)
 
-joined : (low mid high : ℕ) (xs ys : List Row) → Follow low mid xs → Follow mid high ys → Follow low high (xs ++ ys)
+joined : (low mid high : ℕ) (xs ys : List LineRow) → Follow low mid xs → Follow mid high ys → Follow low high (xs ++ ys)
 joined low mid high [] ys x y = lower mid low high ys x y
 joined low mid high (row ∷ xs) ys x y = (x.0, x.1, joined row.end mid high xs ys x.2 y)
 
 -- ---- such rows are apart
 
-stands : (low high : ℕ) (rows : List Row) → Follow low high rows → (i : ℕ) (a : Row) → slice_get rows i ≡ Some a → (low ≤ a.address) × (a.address < a.end)
+stands : (low high : ℕ) (rows : List LineRow) → Follow low high rows → (i : ℕ) (a : LineRow) → slice_get rows i ≡ Some a → (low ≤ a.address) × (a.address < a.end)
 stands low high [] is i a at = absurd (none-some a at)
-stands low high (row ∷ rows) is zero a at = subst (λ (r : Row). (low ≤ r.address) × (r.address < r.end)) (same_Some row a at) (is.0, is.1)
+stands low high (row ∷ rows) is zero a at = subst (λ (r : LineRow). (low ≤ r.address) × (r.address < r.end)) (same_Some row a at) (is.0, is.1)
 stands low high (row ∷ rows) is (suc i) a at =
     let there = stands row.end high rows is.2 i a at in
     let begins = is.0 in
@@ -58,13 +58,13 @@ stands low high (row ∷ rows) is (suc i) a at =
     let behind = there.0 in
     (omega (arith, begins, some, behind), there.1)
 
-follows : (low high : ℕ) (rows : List Row) → Follow low high rows → (i j : ℕ) (a b : Row) → i < j → slice_get rows i ≡ Some a → slice_get rows j ≡ Some b → a.end ≤ b.address
+follows : (low high : ℕ) (rows : List LineRow) → Follow low high rows → (i j : ℕ) (a b : LineRow) → i < j → slice_get rows i ≡ Some a → slice_get rows j ≡ Some b → a.end ≤ b.address
 follows low high [] is i j a b lt at_a at_b = absurd (none-some a at_a)
 follows low high (row ∷ rows) is i zero a b lt at_a at_b = absurd (omega (arith, lt))
-follows low high (row ∷ rows) is zero (suc j) a b lt at_a at_b = subst (λ (r : Row). r.end ≤ b.address) (same_Some row a at_a) (stands row.end high rows is.2 j b at_b).0
+follows low high (row ∷ rows) is zero (suc j) a b lt at_a at_b = subst (λ (r : LineRow). r.end ≤ b.address) (same_Some row a at_a) (stands row.end high rows is.2 j b at_b).0
 follows low high (row ∷ rows) is (suc i) (suc j) a b lt at_a at_b = follows row.end high rows is.2 i j a b (omega (arith, lt)) at_a at_b
 
-are-apart : (low high : ℕ) (rows : List Row) → Follow low high rows → AreApart rows
+are-apart : (low high : ℕ) (rows : List LineRow) → Follow low high rows → AreApart rows
 are-apart low high rows is = record { some = λ i a at. (stands low high rows is i a at).1; behind = follows low high rows is }
 
 -- ---- the rows of a code
@@ -91,8 +91,8 @@ module _ (file method at size : ℕ) (room : at + size < 65536) where
       let rest : map (λ (line : Line). line.offset) lines ≡ begins_from (begin + length (spelled op)) ops = ap (drop 1) begins in
       let left : size ≡ begin + length (spelled op) + length (flat_map spelled ops) = omega (arith, ends, long) in
       let next : end_of size lines ≡ begin + length (spelled op) = next-is size (begin + length (spelled op)) lines ops rest left in
-      let first : further at line.offset ≡ at + begin = omega (arith, here, room, ends, long) in
-      let last : further at (end_of size lines) ≡ at + (begin + length (spelled op)) = omega (arith, next, room, left) in (
+      let first : address_after at line.offset ≡ at + begin = omega (arith, here, room, ends, long) in
+      let last : address_after at (end_of size lines) ≡ at + (begin + length (spelled op)) = omega (arith, next, room, left) in (
         omega (arith, first),
         omega (arith, first, last, some),
         subst (λ n. Follow n (at + size) (line_rows file method at size lines)) (sym last) (follow-lines (begin + length (spelled op)) lines ops rest left),
@@ -130,11 +130,11 @@ follow-codes file method at (code ∷ codes) all room =
     let ends = t.ends in
     let size : length code.bytes ≡ 0 + length (flat_map spelled t.ops) = omega (arith, ends) in
     let own = follow-lines file method at (length code.bytes) (omega (arith, room)) 0 code.lines t.ops t.begins size in
-    let next : further at (length code.bytes) ≡ at + length code.bytes = omega (arith, room) in
+    let next : address_after at (length code.bytes) ≡ at + length code.bytes = omega (arith, room) in
     let others = follow-codes file (method + 1) (at + length code.bytes) codes (λ k c there. all (suc k) c there) (omega (arith, room)) in
     let begin : at + 0 ≡ at = omega arith in
     let end : at + length code.bytes + total bytes_in codes ≡ at + total bytes_in (code ∷ codes) = omega arith in
-    joined at (at + length code.bytes) (at + total bytes_in (code ∷ codes)) (line_rows file method at (length code.bytes) code.lines) (code_rows file (method + 1) (further at (length code.bytes)) codes)
+    joined at (at + length code.bytes) (at + total bytes_in (code ∷ codes)) (line_rows file method at (length code.bytes) code.lines) (code_rows file (method + 1) (address_after at (length code.bytes)) codes)
     (subst (λ n. Follow n (at + length code.bytes) (line_rows file method at (length code.bytes) code.lines)) begin own)
     (subst (λ n. Follow (at + length code.bytes) (at + total bytes_in (code ∷ codes)) (code_rows file (method + 1) n codes)) (sym next)
     (subst (λ n. Follow (at + length code.bytes) n (code_rows file (method + 1) (at + length code.bytes) codes)) end others))
@@ -153,12 +153,12 @@ follow-objects file base (object ∷ objects) (codes ∷ others) are room =
     let same = are.1 in
     let offset : ℕ = codes_offset object in
     let held : offset + total bytes_in codes ≤ size_of object = omega (arith, same) in
-    let first : further base offset ≡ base + offset = omega (arith, held, room) in
-    let next : further base (size_of object) ≡ base + size_of object = omega (arith, room) in
+    let first : address_after base offset ≡ base + offset = omega (arith, held, room) in
+    let next : address_after base (size_of object) ≡ base + size_of object = omega (arith, room) in
     let own = follow-codes file 1 (base + offset) codes are.0 (omega (arith, held, room)) in
     let rest = follow-objects (file + 1) (base + size_of object) objects others are.2 (omega (arith, room)) in
     let end : base + size_of object + total size_of objects ≡ base + total size_of (object ∷ objects) = omega arith in
-    joined base (base + offset + total bytes_in codes) (base + total size_of (object ∷ objects)) (code_rows file 1 (further base offset) codes) (rows_from (file + 1) (further base (size_of object)) objects others)
+    joined base (base + offset + total bytes_in codes) (base + total size_of (object ∷ objects)) (code_rows file 1 (address_after base offset) codes) (rows_from (file + 1) (address_after base (size_of object)) objects others)
     (subst (λ n. Follow base (base + offset + total bytes_in codes) (code_rows file 1 n codes)) (sym first) (lower (base + offset) base (base + offset + total bytes_in codes) (code_rows file 1 (base + offset) codes) (omega arith) own))
     (subst (λ n. Follow (base + offset + total bytes_in codes) (base + total size_of (object ∷ objects)) (rows_from (file + 1) n objects others)) (sym next)
     (lower (base + size_of object) (base + offset + total bytes_in codes) (base + total size_of (object ∷ objects)) (rows_from (file + 1) (base + size_of object) objects others) (omega (arith, held))

@@ -20,7 +20,7 @@ use Rattle.p8_map.specs.declared.names.FileNames.{FileNames}
 use Rattle.p8_map.specs.declared.names.MethodNames.{MethodNames}
 use Rattle.p8_legend.specs.declared.ranges.Range.{Range}
 use Rattle.p8_legend.specs.declared.ranges.Ranges.{Ranges}
-use Rattle.p8_legend.specs.declared.table.Row.{Row}
+use Rattle.p8_legend.specs.declared.table.LineRow.{LineRow}
 use Rattle.p8_legend.specs.Frames.{frame_offset, frame_text, name_in, offset_in, row_local, with_locals}
 use Rattle.p8_legend.specs.Legends.{found_local, local_at}
 use Rattle.p8_legend.specs.ProjectLegends.{Named}
@@ -30,10 +30,10 @@ use Rattle.p8_legend.proofs.Telling.{Behind, end-is, fits, found-row, range_of, 
 
 -- ---- what is told of an address
 
-abbrev local_for : (image : List ℕ) → List FileNames → Row → List ℕ
+abbrev local_for : (image : List ℕ) → List FileNames → LineRow → List ℕ
 local_for image files row = row_local image (slice_get files row.file) row
 
-all-locals : (image : List ℕ) (files : List FileNames) (ranges : List Range) (texts : List (List ℕ)) (rows : List Row) → AreApart rows → Behind (last_end 0 ranges) rows
+all-locals : (image : List ℕ) (files : List FileNames) (ranges : List Range) (texts : List (List ℕ)) (rows : List LineRow) → AreApart rows → Behind (last_end 0 ranges) rows
     → with_locals (ranges, texts) image files rows ≡ (ranges ++ map range_of rows, texts ++ map (local_for image files) rows)
 all-locals image files ranges texts [] apart behind = ap₂ (λ (rs : List Range) (ts : List (List ℕ)). (rs, ts)) (sym (append-nil ranges)) (sym (append-nil texts))
 all-locals image files ranges texts (row ∷ rows) apart behind =
@@ -44,8 +44,8 @@ all-locals image files ranges texts (row ∷ rows) apart behind =
     ∙ all-locals image files more (texts ++ text ∷ []) rows (rest-apart row rows apart) (λ j b at. let after = apart.behind 0 (suc j) row b (omega arith) refl at in let end = end-is 0 ranges r in omega (arith, after, end))
     ∙ ap₂ (λ (rs : List Range) (ts : List (List ℕ)). (rs, ts)) (append_assoc ranges (r ∷ []) (map range_of rows)) (append_assoc texts (text ∷ []) (map (local_for image files) rows))
 
-pub tells-local : (image : List ℕ) (files : List FileNames) (rows : List Row) (locals : Ranges) → AreApart rows → ◌≡◌ {A = Named} (locals.ranges, locals.texts) (with_locals ([], []) image files rows)
-    → (address : ℕ) (row : Row) → IsRowAt rows address row → local_at locals (Some address) ≡ row_local image (slice_get files row.file) row
+pub tells-local : (image : List ℕ) (files : List FileNames) (rows : List LineRow) (locals : Ranges) → AreApart rows → ◌≡◌ {A = Named} (locals.ranges, locals.texts) (with_locals ([], []) image files rows)
+    → (address : ℕ) (row : LineRow) → IsRowAt rows address row → local_at locals (Some address) ≡ row_local image (slice_get files row.file) row
 tells-local image files rows locals apart is address row h =
     let whole : ◌≡◌ {A = Named} (locals.ranges, locals.texts) (map range_of rows, map (local_for image files) rows) = is ∙ all-locals image files [] [] rows apart (λ j b at. omega arith) in
     let ranges : locals.ranges ≡ map range_of rows = ap (λ (n : Named). n.0) whole in

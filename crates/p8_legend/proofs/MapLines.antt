@@ -15,7 +15,7 @@ use Rattle.p8_map.specs.declared.names.FileNames.{FileNames}
 use Rattle.p8_legend.specs.declared.ranges.Range.{Range}
 use Rattle.p8_map.specs.declared.instances.Instance.{Instance}
 use Rattle.p8_meaning.specs.Programs.{Addresses}
-use Rattle.p8_image.specs.Listing.{further}
+use Rattle.p8_image.specs.Listing.{address_after}
 use Rattle.p8_image.specs.Layout.{total, code_size, codes_offset, code_offset, size_of, places_from, text_size, texts_offset, inner_offset}
 use Rattle.p8_image.specs.Places.{base_of, text_place}
 use Rattle.p8_instr.specs.Numerals.{hex}
@@ -40,7 +40,7 @@ module _ {P : List ℕ → Type 0} where
 
 after-all : (place : ℕ) (methods : List MethodPart) → place < 65536 → after_codes place methods ≡ (place + total code_size methods) % 65536
 after-all place [] less = omega (arith, less)
-after-all place (method ∷ methods) less = let rest = after-all (further place (length method.code)) methods (omega arith) in omega (arith, rest)
+after-all place (method ∷ methods) less = let rest = after-all (address_after place (length method.code)) methods (omega arith) in omega (arith, rest)
 
 texts-at : (place : ℕ) (texts : List (List ℕ)) (k : ℕ) (text : List ℕ) → slice_get texts k ≡ Some text → slice_index (places_from text_size place texts) k ≡ place + total text_size (take k texts)
 texts-at place [] k text at = absurd (none-some text at)
@@ -50,12 +50,12 @@ texts-at place (x ∷ texts) (suc k) text at = let rest = texts-at (place + text
 bases-low : (place : ℕ) (objects : List ObjectPart) (f : ℕ) → place < 65536 → slice_index (bases_from place objects) f ≡ slice_index (places_from size_of place objects) f % 65536
 bases-low place [] f less = refl
 bases-low place (x ∷ objects) zero less = omega (arith, less)
-bases-low place (x ∷ objects) (suc f) less = low-from (further place (size_of x)) (place + size_of x) objects f (omega arith)
+bases-low place (x ∷ objects) (suc f) less = low-from (address_after place (size_of x)) (place + size_of x) objects f (omega arith)
   where
     low-from : (a b : ℕ) (os : List ObjectPart) (g : ℕ) → a ≡ b % 65536 → slice_index (bases_from a os) g ≡ slice_index (places_from size_of b os) g % 65536
     low-from a b [] g is = refl
     low-from a b (o ∷ os) zero is = is
-    low-from a b (o ∷ os) (suc g) is = low-from (further a (size_of o)) (b + size_of o) os g (omega (arith, is))
+    low-from a b (o ∷ os) (suc g) is = low-from (address_after a (size_of o)) (b + size_of o) os g (omega (arith, is))
 
 -- a label's line, by where it stands
 abbrev label_at : (place : ℕ) → Label → List ℕ
@@ -72,7 +72,7 @@ module _ {P : List ℕ → Type 0} where
   children-lines files place [] instances less each = no_line
   children-lines files place (name ∷ names) [] less each = no_line
   children-lines files place (name ∷ names) (f ∷ instances) less each =
-      one_more (each 0 name f place refl refl (omega (arith, less))) (children-lines files (further place 4) names instances (omega arith) (λ i x g a at there is. each (suc i) x g a at there (omega (arith, is))))
+      one_more (each 0 name f place refl refl (omega (arith, less))) (children-lines files (address_after place 4) names instances (omega arith) (λ i x g a at there is. each (suc i) x g a at there (omega (arith, is))))
 
   methods-lines : (place number : ℕ) (names : List MethodNames) (methods : List MethodPart) → place < 65536
       → ((k : ℕ) (m : MethodNames) (method : MethodPart) (a n : ℕ) → slice_get names k ≡ Some m → slice_get methods k ≡ Some method → a ≡ (place + total code_size (take k methods)) % 65536 → n ≡ number + k
@@ -82,13 +82,13 @@ module _ {P : List ℕ → Type 0} where
   methods-lines place number (m ∷ names) [] less each = no_line
   methods-lines place number (m ∷ names) (method ∷ methods) less each =
       one_more (each 0 m method place number refl refl (omega (arith, less)) (omega arith))
-      (methods-lines (further place (length method.code)) (number + 1) names methods (omega arith) (λ k x y a n at there is count. each (suc k) x y a n at there (omega (arith, is)) (omega (arith, count))))
+      (methods-lines (address_after place (length method.code)) (number + 1) names methods (omega arith) (λ k x y a n at there is count. each (suc k) x y a n at there (omega (arith, is)) (omega (arith, count))))
 
   texts-lines : (place : ℕ) (texts : List (List ℕ)) → place < 65536
       → ((k : ℕ) (text : List ℕ) (a : ℕ) → slice_get texts k ≡ Some text → a ≡ (place + total text_size (take k texts)) % 65536 → P (text_line a text)) → IsMadeOf P (text_lines place texts)
   texts-lines place [] less each = no_line
   texts-lines place (text ∷ texts) less each =
-      one_more (each 0 text place refl (omega (arith, less))) (texts-lines (further place (text_size text)) texts (omega arith) (λ k x a at is. each (suc k) x a at (omega (arith, is))))
+      one_more (each 0 text place refl (omega (arith, less))) (texts-lines (address_after place (text_size text)) texts (omega arith) (λ k x a at is. each (suc k) x a at (omega (arith, is))))
 
   lines-of-objects : (all files : List FileNames) (base : ℕ) (objects : List ObjectPart) → base < 65536
       → ((f : ℕ) (names : FileNames) (object : ObjectPart) (b : ℕ) → slice_get files f ≡ Some names → slice_get objects f ≡ Some object → b ≡ (base + total size_of (take f objects)) % 65536 → IsMadeOf P (object_lines all b names object))
@@ -96,8 +96,8 @@ module _ {P : List ℕ → Type 0} where
   lines-of-objects all [] base objects less each = no_line
   lines-of-objects all (names ∷ files) base [] less each = no_line
   lines-of-objects all (names ∷ files) base (object ∷ objects) less each =
-      both (object_lines all base names object) (objects_lines all (further base (size_of object)) files objects) (each 0 names object base refl refl (omega (arith, less)))
-      (lines-of-objects all files (further base (size_of object)) objects (omega arith) (λ f x y b at there is. each (suc f) x y b at there (omega (arith, is))))
+      both (object_lines all base names object) (objects_lines all (address_after base (size_of object)) files objects) (each 0 names object base refl refl (omega (arith, less)))
+      (lines-of-objects all files (address_after base (size_of object)) objects (omega arith) (λ f x y b at there is. each (suc f) x y b at there (omega (arith, is))))
 
   variables-lines : (size place : ℕ) (prefix : List ℕ) (names : List (List ℕ)) (variables : List Variable) → place < 65536
       → ((v : ℕ) (name : List ℕ) (variable : Variable) (a : ℕ) → slice_get names v ≡ Some name → slice_get variables v ≡ Some variable → a ≡ (place + total (sized_bytes size) (take v variables)) % 65536 → variable.size ≡ size
@@ -106,9 +106,9 @@ module _ {P : List ℕ → Type 0} where
   variables-lines size place prefix [] variables less each = no_line
   variables-lines size place prefix (name ∷ names) [] less each = no_line
   variables-lines size place prefix (name ∷ names) (x ∷ variables) less each =
-      both (sized_line size place prefix name x) (sized_lines size (further place (sized_bytes size x)) prefix names variables)
+      both (sized_line size place prefix name x) (sized_lines size (address_after place (sized_bytes size x)) prefix names variables)
       (by (x.size == size) (λ is. each 0 name x place refl refl (omega (arith, less)) (grind (arith, nat_tests))))
-      (variables-lines size (further place (sized_bytes size x)) prefix names variables (omega arith) (λ v y z a at there is same. each (suc v) y z a at there (omega (arith, is)) same))
+      (variables-lines size (address_after place (sized_bytes size x)) prefix names variables (omega arith) (λ v y z a at there is same. each (suc v) y z a at there (omega (arith, is)) same))
     where
       by : (b : Bool) → (b ≡ true → P (variable_line place prefix name x)) → IsMadeOf P (if b then variable_line place prefix name x else [])
       by true here = alone (variable_line place prefix name x) (here refl)
@@ -129,15 +129,15 @@ module _ (files : List FileNames) (objects : List ObjectPart) (addresses : Addre
       let base = bases-at 16 objects f object there in
       let here : IsFileAt files objects f names object = record { is_file = at; is_object = there } in
       let same : b ≡ base_of objects f % 65536 = omega (arith, is, base) in
-      let codes_at = further b (codes_offset object) in
+      let codes_at = address_after b (codes_offset object) in
       let texts_at = after_codes codes_at object.methods in
       let after = after-all codes_at object.methods (omega arith) in
       both _ (text_lines texts_at object.texts)
       (both _ (method_lines codes_at 1 names.methods object.methods)
       (both _ (flat_map (label_line b) names.labels)
-      (both (object_line b names.file) (child_lines files (further b (4 + 4 * length object.methods)) names.instances object.instances)
+      (both (object_line b names.file) (child_lines files (address_after b (4 + 4 * length object.methods)) names.instances object.instances)
       (alone (object_line b names.file) (subst (λ a. IsLine (object_line a names.file)) (sym same) (of_object here)))
-      (children-lines files (further b (4 + 4 * length object.methods)) names.instances object.instances (omega arith)
+      (children-lines files (address_after b (4 + 4 * length object.methods)) names.instances object.instances (omega arith)
       (λ i name child a at_name at_child a_is. subst (λ p. IsLine (child_line p name (file_name files child))) (let e : (base_of objects f + 4 * (length object.methods + 1 + i)) % 2 ^ 16 ≡ a = omega (arith, same, a_is) in e) (of_child i here at_name at_child))))
       (each-line (label_line b) names.labels (λ k label at_label.
       subst IsLine (label-same label) (of_label (record { f = f; names = names; object = object; there = here; k = k; label = label; is_label = at_label })))))
@@ -151,7 +151,7 @@ module _ (files : List FileNames) (objects : List ObjectPart) (addresses : Addre
       subst (λ p. IsLine (text_line p text)) (let e : text_place objects f object k % 2 ^ 16 ≡ a = omega (arith, same, stands, after, a_is) in e) (of_text k here at_text)))
     where
       label-same : (label : Label) → label_line (base_of objects f) label ≡ label_line b label
-      label-same label = ap (λ (p : ℕ). label_at p label) (let base = bases-at 16 objects f object there in let e : further (base_of objects f) label.offset ≡ further b label.offset = omega (arith, is, base) in e)
+      label-same label = ap (λ (p : ℕ). label_at p label) (let base = bases-at 16 objects f object there in let e : address_after (base_of objects f) label.offset ≡ address_after b label.offset = omega (arith, is, base) in e)
 
   sized-line : (i : Instance) (h : IsInstanceAt files objects addresses inner i) (names : FileNames) (object : ObjectPart) → slice_get files i.file ≡ Some names → slice_get objects i.file ≡ Some object
       → (size before : ℕ) → before ≡ (i.place + greater size object.variables) % 65536

@@ -20,7 +20,7 @@ use Rattle.p8_map.specs.declared.names.FileNames.{FileNames}
 use Rattle.p8_map.specs.Projects.{names_of}
 use Rattle.p8_legend.specs.declared.legend.Legend.{Legend}
 use Rattle.p8_legend.specs.declared.table.LineTable.{LineTable}
-use Rattle.p8_legend.specs.declared.table.Row.{Row}
+use Rattle.p8_legend.specs.declared.table.LineRow.{LineRow}
 use Rattle.p8_legend.specs.Rows.{codes_of, rows_from, IsLineTable}
 use Rattle.p8_legend.specs.ProjectLegends.{names_in, with_rows}
 use Rattle.p8_legend.specs.DatLines.{dats_of, with_dats}
@@ -63,7 +63,7 @@ dats-are (file ∷ files) (c ∷ cs) (f ∷ fs) beside count each =
 
 pub legend-told : (sources : List (List ℕ)) (files : List NamedSource) (a : Accepted) → IsAccepted files a
     → (shown : List FileNames) → shown ≡ names_of sources files a.children (compiled_files a)
-    → (rows : List Row) → rows ≡ rows_from 0 16 a.built.objects (codes_of (compiled_files a))
+    → (rows : List LineRow) → rows ≡ rows_from 0 16 a.built.objects (codes_of (compiled_files a))
     → (image : List ℕ) → image ≡ a.built.image.file → (at : ℕ) → at ≡ word_at image 8 → (objects : List ObjectPart) → objects ≡ a.built.objects → (legend : Legend)
     → (legend.names.ranges, legend.names.texts) ≡ names_in at shown objects → (legend.places.ranges, legend.places.texts) ≡ with_rows ([], []) shown rows
     → (legend.lines.ranges, legend.lines.texts) ≡ with_dats ([], []) 16 shown objects (map (λ (f : AcceptedFile). f.dat.lines) a.files)

@@ -13,7 +13,7 @@ use Rattle.p8_map.specs.declared.names.FileNames.{FileNames}
 use Rattle.p8_legend.specs.declared.ranges.Range.{Range}
 use Rattle.p8_map.specs.declared.instances.Instance.{Instance}
 use Rattle.p8_meaning.specs.Programs.{Instance as Standing, Addresses}
-use Rattle.p8_image.specs.Listing.{further}
+use Rattle.p8_image.specs.Listing.{address_after}
 use Rattle.p8_image.specs.Layout.{total, code_size, codes_offset, code_offset, size_of, places_from, variable_size, variable_offset, own_variables, variables_of, inner_offset}
 use Rattle.p8_image.specs.Places.{base_of}
 use Rattle.p8_legend.specs.Ranges.{last_end}
@@ -77,24 +77,24 @@ module _ (P : List ℕ → Range → Type 0) where
   -- ---- labels
 
   pub labels-named : (n : Named) (prefix : List ℕ) (base codes_at : ℕ) (labels : List Label) → AreAll n
-      → ((k : ℕ) (label : Label) → slice_get labels k ≡ Some label → P (prefix ++ label.name) (record { address = further base label.offset; end = label_end base codes_at (drop (suc k) labels) }))
+      → ((k : ℕ) (label : Label) → slice_get labels k ≡ Some label → P (prefix ++ label.name) (record { address = address_after base label.offset; end = label_end base codes_at (drop (suc k) labels) }))
       → AreAll (with_labels n prefix base codes_at labels)
   labels-named n prefix base codes_at [] all each = all
   labels-named n prefix base codes_at (label ∷ labels) all each =
-      labels-named (and_one n (further base label.offset) (label_end base codes_at labels) (prefix ++ label.name)) prefix base codes_at labels
-      (one-name n (further base label.offset) (label_end base codes_at labels) (prefix ++ label.name) all (λ some. each 0 label refl))
+      labels-named (and_one n (address_after base label.offset) (label_end base codes_at labels) (prefix ++ label.name)) prefix base codes_at labels
+      (one-name n (address_after base label.offset) (label_end base codes_at labels) (prefix ++ label.name) all (λ some. each 0 label refl))
       (λ k. each (suc k))
 
   -- ---- methods
 
   pub methods-named : (n : Named) (prefix : List ℕ) (place : ℕ) (names : List MethodNames) (methods : List MethodPart) → place < 65536 → AreAll n
       → ((k : ℕ) (m : MethodNames) (method : MethodPart) (a : ℕ) → slice_get names k ≡ Some m → slice_get methods k ≡ Some method → a ≡ (place + total code_size (take k methods)) % 65536
-      → P (prefix ++ m.name) (record { address = a; end = further a (length method.code) }))
+      → P (prefix ++ m.name) (record { address = a; end = address_after a (length method.code) }))
       → AreAll (with_methods n prefix place names methods)
   methods-named n prefix place [] methods low all each = all
   methods-named n prefix place (m ∷ names) [] low all each = all
   methods-named n prefix place (m ∷ names) (method ∷ methods) low all each =
-      let next = further place (length method.code) in
+      let next = address_after place (length method.code) in
       methods-named (and_one n place next (prefix ++ m.name)) prefix next names methods (omega arith)
       (one-name n place next (prefix ++ m.name) all (λ some. each 0 m method place refl refl (omega (arith, low))))
       (λ k x y a at there is. each (suc k) x y a at there (omega (arith, is)))
@@ -108,7 +108,7 @@ module _ (P : List ℕ → Range → Type 0) where
   objects-named n all_files parts number base [] objects low all each = all
   objects-named n all_files parts number base (names ∷ files) [] low all each = all
   objects-named n all_files parts number base (names ∷ files) (object ∷ objects) low all each =
-      let next = further base (size_of object) in
+      let next = address_after base (size_of object) in
       let none : number + 0 ≡ number = omega arith in
       let here : AreAll (with_object n (path_of all_files parts (length parts) number) base names object) =
       subst (λ f. AreAll (with_object n (path_of all_files parts (length parts) f) base names object)) none (each 0 names object base n refl refl (omega (arith, low)) all) in
@@ -130,12 +130,12 @@ module _ (P : List ℕ → Range → Type 0) where
 
   pub sized-named : (n : Named) (size place : ℕ) (prefix : List ℕ) (names : List (List ℕ)) (variables : List Variable) → place < 65536 → AreAll n
       → ((v : ℕ) (name : List ℕ) (variable : Variable) (a : ℕ) → slice_get names v ≡ Some name → slice_get variables v ≡ Some variable → a ≡ (place + total (sized_bytes size) (take v variables)) % 65536
-      → variable.size ≡ size → P (prefix ++ name) (record { address = a; end = further a (sized_bytes size variable) }))
+      → variable.size ≡ size → P (prefix ++ name) (record { address = a; end = address_after a (sized_bytes size variable) }))
       → AreAll (with_sized n size place prefix names variables)
   sized-named n size place prefix [] variables low all each = all
   sized-named n size place prefix (name ∷ names) [] low all each = all
   sized-named n size place prefix (name ∷ names) (x ∷ variables) low all each =
-      let next = further place (sized_bytes size x) in
+      let next = address_after place (sized_bytes size x) in
       sized-named (and_if (x.size == size) n place next (prefix ++ name)) size next prefix names variables (omega arith)
       (name-if (x.size == size) n place next (prefix ++ name) all (λ is. each 0 name x place refl refl (omega (arith, low)) (same-size x.size size is)))
       (λ v y z a at there is. each (suc v) y z a at there (omega (arith, is)))
@@ -175,7 +175,7 @@ of-size size (v ∷ vs) = one-size (v.size == size) v (filter (λ (x : Variable)
 pub after-is : (size place : ℕ) (vs : List Variable) → place < 65536 → after_size size place vs ≡ (place + total (sized_bytes size) vs) % 65536
 after-is size place [] less = omega (arith, less)
 after-is size place (v ∷ vs) less =
-    let rest = after-is size (further place (sized_bytes size v)) vs (omega arith) in
+    let rest = after-is size (address_after place (sized_bytes size v)) vs (omega arith) in
     omega (arith, rest)
 
 -- ---- where the instances of objects have their variables
@@ -221,13 +221,13 @@ module _ (files : List FileNames) (objects : List ObjectPart) (addresses : Addre
   all-are within place prefix (name ∷ names) (f ∷ instances) each less is =
       let size = slice_index sizes f in
       let low_size = low-at (variables_of objects) f in
-      All-append IsInstanceAt (one_inside within size place prefix name f) (all_inside within sizes (further place size) prefix names instances)
+      All-append IsInstanceAt (one_inside within size place prefix name f) (all_inside within sizes (address_after place size) prefix names instances)
       (one-is within size place prefix name f each (is 0 name f place refl refl (omega (arith, less))))
-      (all-are within (further place size) prefix names instances each (omega arith) (λ i x g a at there a_is. is (suc i) x g a at there (omega (arith, a_is, low_size))))
+      (all-are within (address_after place size) prefix names instances each (omega arith) (λ i x g a at there a_is. is (suc i) x g a at there (omega (arith, a_is, low_size))))
 
   next-is : (prefix : List ℕ) (f place : ℕ) (names : FileNames) (object : ObjectPart) → IsInstanceAt (record { prefix = prefix; file = f; place = place }) → slice_get files f ≡ Some names → slice_get objects f ≡ Some object
       → (i : ℕ) (name : List ℕ) (g a : ℕ) → slice_get names.instances i ≡ Some name → slice_get object.instances i ≡ Some g
-      → a ≡ (further place (own_variables object) + total (slice_index (variables_of objects)) (take i object.instances)) % 65536 → IsInstanceAt (record { prefix = prefix ++ name ++ codes "."; file = g; place = a })
+      → a ≡ (address_after place (own_variables object) + total (slice_index (variables_of objects)) (take i object.instances)) % 65536 → IsInstanceAt (record { prefix = prefix ++ name ++ codes "."; file = g; place = a })
   next-is prefix f place names object h at there i name g a at_name at_child a_is =
       let outer = h.instance in
       let file = h.file_is in
@@ -253,9 +253,9 @@ module _ (files : List FileNames) (objects : List ObjectPart) (addresses : Addre
       by None y at there each = All-nil IsInstanceAt
       by (Some names) None at there each = All-nil IsInstanceAt
       by (Some names) (Some object) at there each =
-          All-append IsInstanceAt (own_instance prefix f place object.variables) (all_inside (instances_within files objects sizes depth) sizes (further place (own_variables object)) prefix names.instances object.instances)
+          All-append IsInstanceAt (own_instance prefix f place object.variables) (all_inside (instances_within files objects sizes depth) sizes (address_after place (own_variables object)) prefix names.instances object.instances)
           (own-is prefix f place object.variables is)
-          (all-are (instances_within files objects sizes depth) (further place (own_variables object)) prefix names.instances object.instances each (omega arith)
+          (all-are (instances_within files objects sizes depth) (address_after place (own_variables object)) prefix names.instances object.instances each (omega arith)
           (next-is prefix f place names object is at there))
 
   pub all-instances : (variables_at : ℕ) → variables_at < 65536 → addresses.top.variables ≡ variables_at → addresses.top.file ≡ 0 → All IsInstanceAt (instances_from variables_at files objects)
@@ -327,7 +327,7 @@ module _ (files : List FileNames) (objects : List ObjectPart) (addresses : Addre
   abbrev pub IsAt : Instance → Type 0
   IsAt = IsInstanceAt files objects addresses inner
 
-  end-same : (b base offset : ℕ) (labels : List Label) → b ≡ base % 65536 → label_end b (further b offset) labels ≡ label_end base ((base + offset) % 65536) labels
+  end-same : (b base offset : ℕ) (labels : List Label) → b ≡ base % 65536 → label_end b (address_after b offset) labels ≡ label_end base ((base + offset) % 65536) labels
   end-same b base offset [] is = omega (arith, is)
   end-same b base offset (label ∷ labels) is = omega (arith, is)
 
@@ -340,7 +340,7 @@ module _ (files : List FileNames) (objects : List ObjectPart) (addresses : Addre
       let base = bases-at 16 objects f object there in
       let here : IsFileAt files objects f names object = record { is_file = at; is_object = there } in
       let path = path_of files objects (length objects) f in
-      let place = further b (codes_offset object) in
+      let place = address_after b (codes_offset object) in
       let same : b ≡ base_of objects f % 65536 = omega (arith, is, base) in
       methods-named P (with_labels so_far path b place names.labels) path place names.methods object.methods (omega arith)
       (labels-named P so_far path b place names.labels all (λ k label at_label.
@@ -355,7 +355,7 @@ module _ (files : List FileNames) (objects : List ObjectPart) (addresses : Addre
       → (size before : ℕ) → before ≡ (i.place + greater size object.variables) % 65536
       → (v : ℕ) (name : List ℕ) (variable : Variable) (a : ℕ) → slice_get names.variables v ≡ Some name → slice_get object.variables v ≡ Some variable
       → a ≡ (before + total (sized_bytes size) (take v object.variables)) % 65536 → variable.size ≡ size
-      → (x : NamedVariable files objects addresses) × (x.path ≡ i.prefix) × (x.name ≡ name) × (x.variable ≡ variable) × (record { address = a; end = further a (sized_bytes size variable) } ≡ variable_range files objects addresses x)
+      → (x : NamedVariable files objects addresses) × (x.path ≡ i.prefix) × (x.name ≡ name) × (x.variable ≡ variable) × (record { address = a; end = address_after a (sized_bytes size variable) } ≡ variable_range files objects addresses x)
   one-of i h names object at there size before before_is v name variable a at_name at_variable a_is of =
       let bytes = bytes-of-size size variable of in
       let begin = h.place_is in
@@ -384,7 +384,7 @@ module _ (files : List FileNames) (objects : List ObjectPart) (addresses : Addre
   sized-name : (i : Instance) (h : IsAt i) (names : FileNames) (object : ObjectPart) → slice_get files i.file ≡ Some names → slice_get objects i.file ≡ Some object
       → (size before : ℕ) → before ≡ (i.place + greater size object.variables) % 65536
       → (v : ℕ) (name : List ℕ) (variable : Variable) (a : ℕ) → slice_get names.variables v ≡ Some name → slice_get object.variables v ≡ Some variable
-      → a ≡ (before + total (sized_bytes size) (take v object.variables)) % 65536 → variable.size ≡ size → P (i.prefix ++ name) (record { address = a; end = further a (sized_bytes size variable) })
+      → a ≡ (before + total (sized_bytes size) (take v object.variables)) % 65536 → variable.size ≡ size → P (i.prefix ++ name) (record { address = a; end = address_after a (sized_bytes size variable) })
   sized-name i h names object at there size before before_is v name variable a at_name at_variable a_is of =
       let x = one-of i h names object at there size before before_is v name variable a at_name at_variable a_is of in
       of_variable x.0 (ap₂ (λ (p n : List ℕ). p ++ n) (sym x.1) (sym x.2)) x.4

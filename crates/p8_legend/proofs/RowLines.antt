@@ -19,15 +19,15 @@ use Rattle.p8_build.specs.Builds.{AreCompiled, objects_of, IsBuilt}
 use Rattle.p8_build.proofs.One.{alike, same_codes, same_labels}
 use Rattle.p8_build.proofs.Wholes.{one_objects}
 use Rattle.p8_opt.specs.Lines.{line_at, lines_of_codes, lines_from, lines_of}
-use Rattle.p8_legend.specs.declared.table.Row.{Row}
+use Rattle.p8_legend.specs.declared.table.LineRow.{LineRow}
 use Rattle.p8_legend.specs.declared.table.LineTable.{LineTable}
-use Rattle.p8_image.specs.Listing.{further}
+use Rattle.p8_image.specs.Listing.{address_after}
 use Rattle.p8_legend.specs.Rows.{line_rows, code_rows, rows_from, codes_of, IsLineTable, AreApart}
 use Rattle.p8_legend.specs.Lines.{begins_from}
 use Rattle.p8_legend.specs.Naming.{NamesStatement}
 use Rattle.p8_legend.proofs.LinesApart.{no-lines, AreAllTiled, AreFilled, bytes_in, filled, objects-fit}
 
-abbrev line_in : Row → ℕ × Place
+abbrev line_in : LineRow → ℕ × Place
 line_in row = (row.address, row.place)
 
 -- ---- the rows of a code
@@ -42,7 +42,7 @@ module _ (file method at size : ℕ) (room : at + size < 65536) where
       let here : line.offset ≡ begin = ap (λ ns. get_or ns 0 0) begins in
       let rest : map (λ (line : Line). line.offset) lines ≡ begins_from (begin + length (spelled op)) ops = ap (drop 1) begins in
       let left : size ≡ begin + length (spelled op) + length (flat_map spelled ops) = omega (arith, ends, long) in
-      let first : further at line.offset ≡ at + line.offset = omega (arith, here, room, ends, long) in
+      let first : address_after at line.offset ≡ at + line.offset = omega (arith, here, room, ends, long) in
       ap (λ n. (n, line.statement) ∷ map line_in (line_rows file method at size lines)) first
       ∙ ap (λ ls. (at + line.offset, line.statement) ∷ ls) (code-lines (begin + length (spelled op)) lines ops rest left)
 
@@ -55,8 +55,8 @@ codes-lines file method at (code ∷ codes) all room =
     let ends = t.ends in
     let size : length code.bytes ≡ 0 + length (flat_map spelled t.ops) = omega (arith, ends) in
     let own = code-lines file method at (length code.bytes) (omega (arith, room)) 0 code.lines t.ops t.begins size in
-    let next : further at (length code.bytes) ≡ at + length code.bytes = omega (arith, room) in
-    map-append line_in (line_rows file method at (length code.bytes) code.lines) (code_rows file (method + 1) (further at (length code.bytes)) codes)
+    let next : address_after at (length code.bytes) ≡ at + length code.bytes = omega (arith, room) in
+    map-append line_in (line_rows file method at (length code.bytes) code.lines) (code_rows file (method + 1) (address_after at (length code.bytes)) codes)
     ∙ ap₂ (λ (xs ys : List (ℕ × Place)). xs ++ ys) own
     (ap (λ n. map line_in (code_rows file (method + 1) n codes)) next ∙ codes-lines file (method + 1) (at + length code.bytes) codes (λ k c there. all (suc k) c there) (omega (arith, room)))
 
@@ -69,23 +69,23 @@ objects-lines file base (object ∷ objects) (x ∷ xs) are room =
     let same = are.1 in
     let offset : ℕ = codes_offset object in
     let held : offset + total bytes_in x.codes ≤ size_of object = omega (arith, same) in
-    let first : further base offset ≡ base + offset = omega (arith, held, room) in
-    let next : further base (size_of object) ≡ base + size_of object = omega (arith, room) in
-    map-append line_in (code_rows file 1 (further base offset) x.codes) (rows_from (file + 1) (further base (size_of object)) objects (codes_of xs))
+    let first : address_after base offset ≡ base + offset = omega (arith, held, room) in
+    let next : address_after base (size_of object) ≡ base + size_of object = omega (arith, room) in
+    map-append line_in (code_rows file 1 (address_after base offset) x.codes) (rows_from (file + 1) (address_after base (size_of object)) objects (codes_of xs))
     ∙ ap₂ (λ (front rest : List (ℕ × Place)). front ++ rest)
     (ap (λ n. map line_in (code_rows file 1 n x.codes)) first ∙ codes-lines file 1 (base + offset) x.codes are.0 (omega (arith, held, room)))
     (ap (λ n. map line_in (rows_from (file + 1) n objects (codes_of xs))) next ∙ objects-lines (file + 1) (base + size_of object) objects xs are.2 (omega (arith, room)))
 
 -- ---- a row for each line
 
-row-of : (rows : List Row) (x : ℕ × Place) → Contains (map line_in rows) x → (k : ℕ) × (row : Row) × (slice_get rows k ≡ Some row) × (line_in row ≡ x)
+row-of : (rows : List LineRow) (x : ℕ × Place) → Contains (map line_in rows) x → (k : ℕ) × (row : LineRow) × (slice_get rows k ≡ Some row) × (line_in row ≡ x)
 row-of [] x (k, lt, is) = absurd (omega (arith, lt))
 row-of (row ∷ rows) x (zero, lt, is) = (0, row, refl, is)
 row-of (row ∷ rows) x (suc k, lt, is) =
     let m = row-of rows x (k, omega (arith, lt), is) in
     (suc m.0, m.1, m.2, m.3)
 
-names-by : (rows : List Row) → AreApart rows → (address : ℕ) (place : Place) (statement : Option Place) → Contains (map line_in rows) (address, place) → statement ≡ Some place → NamesStatement rows address statement
+names-by : (rows : List LineRow) → AreApart rows → (address : ℕ) (place : Place) (statement : Option Place) → Contains (map line_in rows) (address, place) → statement ≡ Some place → NamesStatement rows address statement
 names-by rows apart address place statement has is =
     let m = row-of rows (address, place) has in
     let at : m.1.address ≡ address = ap (λ (x : ℕ × Place). x.0) m.3 in

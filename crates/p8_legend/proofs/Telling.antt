@@ -21,20 +21,20 @@ use Rattle.p8_map.specs.Names.{file_names, method_names}
 use Rattle.p8_map.specs.Projects.{names_of}
 use Rattle.p8_legend.specs.Origins.{IsRowOf}
 use Rattle.p8_legend.specs.Telling.{TellsRows}
-use Rattle.p8_legend.specs.declared.ranges.Found.{Found}
+use Rattle.p8_legend.specs.declared.ranges.FoundRange.{FoundRange}
 use Rattle.p8_legend.specs.declared.ranges.Range.{Range}
 use Rattle.p8_legend.specs.declared.ranges.Ranges.{Ranges}
-use Rattle.p8_legend.specs.declared.table.Row.{Row}
+use Rattle.p8_legend.specs.declared.table.LineRow.{LineRow}
 use Rattle.p8_map.specs.declared.names.FileNames.{FileNames}
 use Rattle.p8_legend.specs.Ranges.{last_end, with_range, holds, behind_one, found_at, text_or}
 use Rattle.p8_legend.specs.ProjectLegends.{Named, method_name, row_text, with_rows}
 use Rattle.p8_legend.specs.Legends.{found_text, place_text}
 use Rattle.p8_legend.specs.Rows.{AreApart, IsRowAt}
 
-abbrev pub range_of : Row → Range
+abbrev pub range_of : LineRow → Range
 range_of row = record { address = row.address; end = row.end }
 
-abbrev text_for : List FileNames → Row → List ℕ
+abbrev text_for : List FileNames → LineRow → List ℕ
 text_for files row = row_text (slice_get files row.file) row
 
 -- ---- no row is left out
@@ -46,13 +46,13 @@ pub end-is : (lowest : ℕ) (ranges : List Range) (r : Range) → last_end lowes
 end-is lowest [] r = refl
 end-is lowest (x ∷ ranges) r = end-is x.end ranges r
 
-pub rest-apart : (row : Row) (rows : List Row) → AreApart (row ∷ rows) → AreApart rows
+pub rest-apart : (row : LineRow) (rows : List LineRow) → AreApart (row ∷ rows) → AreApart rows
 rest-apart row rows apart = record { some = λ i. apart.some (suc i); behind = λ i j a b lt. apart.behind (suc i) (suc j) a b (omega (arith, lt)) }
 
-abbrev pub Behind : (end : ℕ) → List Row → Type 0
-Behind end rows = (j : ℕ) (b : Row) → slice_get rows j ≡ Some b → end ≤ b.address
+abbrev pub Behind : (end : ℕ) → List LineRow → Type 0
+Behind end rows = (j : ℕ) (b : LineRow) → slice_get rows j ≡ Some b → end ≤ b.address
 
-all-rows : (files : List FileNames) (ranges : List Range) (texts : List (List ℕ)) (rows : List Row) → AreApart rows → Behind (last_end 0 ranges) rows
+all-rows : (files : List FileNames) (ranges : List Range) (texts : List (List ℕ)) (rows : List LineRow) → AreApart rows → Behind (last_end 0 ranges) rows
     → with_rows (ranges, texts) files rows ≡ (ranges ++ map range_of rows, texts ++ map (text_for files) rows)
 all-rows files ranges texts [] apart behind = ap₂ (λ (rs : List Range) (ts : List (List ℕ)). (rs, ts)) (sym (append-nil ranges)) (sym (append-nil texts))
 all-rows files ranges texts (row ∷ rows) apart behind =
@@ -71,23 +71,23 @@ held address r x y from to = grind (arith, nat_tests)
 pub past : (address : ℕ) (r : Range) {X : Type 0} (x y : X) → r.end ≤ address → (if holds address r then x else y) ≡ y
 past address r x y behind = grind (arith, nat_tests)
 
-pub found-row : (rows : List Row) (address : ℕ) → AreApart rows → (n : ℕ) (row : Row) → slice_get rows n ≡ Some row → row.address ≤ address → address < row.end
-    → (f : Found) × (found_at (map range_of rows) address ≡ Some f) × (f.number ≡ n)
+pub found-row : (rows : List LineRow) (address : ℕ) → AreApart rows → (n : ℕ) (row : LineRow) → slice_get rows n ≡ Some row → row.address ≤ address → address < row.end
+    → (f : FoundRange) × (found_at (map range_of rows) address ≡ Some f) × (f.number ≡ n)
 found-row [] address apart n row at from to = absurd (none-some row at)
 found-row (x ∷ rows) address apart zero row at from to =
     let same : x ≡ row = same_Some x row at in
-    let low : x.address ≤ address = subst (λ (z : Row). z.address ≤ address) (sym same) from in
-    let high : address < x.end = subst (λ (z : Row). address < z.end) (sym same) to in
+    let low : x.address ≤ address = subst (λ (z : LineRow). z.address ≤ address) (sym same) from in
+    let high : address < x.end = subst (λ (z : LineRow). address < z.end) (sym same) to in
     (record { number = 0; offset = address - x.address }, held address (range_of x) _ (option_map behind_one (found_at (map range_of rows) address)) low high, refl)
 found-row (x ∷ rows) address apart (suc n) row at from to =
     let behind = apart.behind 0 (suc n) x row (omega arith) refl at in
     let rest = found-row rows address (rest-apart x rows apart) n row at from to in
     (behind_one rest.0, past address (range_of x) (Some (record { number = 0; offset = address - x.address })) _ (omega (arith, behind, from)) ∙ ap (option_map behind_one) rest.1, ap suc rest.2)
 
-abbrev Misses : List Row → (address : ℕ) → Type 0
-Misses rows address = (row : Row) → IsRowAt rows address row → ⊥
+abbrev Misses : List LineRow → (address : ℕ) → Type 0
+Misses rows address = (row : LineRow) → IsRowAt rows address row → ⊥
 
-rest-misses : (row : Row) (rows : List Row) (address : ℕ) → Misses (row ∷ rows) address → Misses rows address
+rest-misses : (row : LineRow) (rows : List LineRow) (address : ℕ) → Misses (row ∷ rows) address → Misses rows address
 rest-misses row rows address none other h = none other (record { number = suc h.number; stands = h.stands; begins = h.begins; ends = h.ends })
 
 low : (address a b : ℕ) → (nat_le a address && nat_lt address b) ≡ true → a ≤ address
@@ -96,12 +96,12 @@ low address a b h = grind (arith, nat_tests)
 high : (address a b : ℕ) → (nat_le a address && nat_lt address b) ≡ true → address < b
 high address a b h = grind (arith, nat_tests)
 
-none-by : (b : Bool) (address : ℕ) (x : Row) (rest : Option Found) → holds address (range_of x) ≡ b → (b ≡ true → ⊥) → rest ≡ None
+none-by : (b : Bool) (address : ℕ) (x : LineRow) (rest : Option FoundRange) → holds address (range_of x) ≡ b → (b ≡ true → ⊥) → rest ≡ None
     → (if b then Some (record { number = 0; offset = address - x.address }) else option_map behind_one rest) ≡ None
 none-by true address x rest is never none = absurd (never refl)
 none-by false address x rest is never none = ap (option_map behind_one) none
 
-found-none : (rows : List Row) (address : ℕ) → Misses rows address → found_at (map range_of rows) address ≡ None
+found-none : (rows : List LineRow) (address : ℕ) → Misses rows address → found_at (map range_of rows) address ≡ None
 found-none [] address none = refl
 found-none (x ∷ rows) address none =
     none-by (holds address (range_of x)) address x (found_at (map range_of rows) address) refl
@@ -111,11 +111,11 @@ found-none (x ∷ rows) address none =
 -- ---- what is told
 
 -- the text of the row that holds an address, or none where no row does
-record TellTexts (files : List FileNames) (rows : List Row) (places : Ranges) : Type 0 where
-  told : (address : ℕ) (row : Row) → IsRowAt rows address row → place_text places (Some address) ≡ codes " " ++ row_text (slice_get files row.file) row
+record TellTexts (files : List FileNames) (rows : List LineRow) (places : Ranges) : Type 0 where
+  told : (address : ℕ) (row : LineRow) → IsRowAt rows address row → place_text places (Some address) ≡ codes " " ++ row_text (slice_get files row.file) row
   untold : (address : ℕ) → Misses rows address → place_text places (Some address) ≡ []
 
-tell-texts : (files : List FileNames) (rows : List Row) (places : Ranges) → AreApart rows → ◌≡◌ {A = Named} (places.ranges, places.texts) (with_rows ([], []) files rows) → TellTexts files rows places
+tell-texts : (files : List FileNames) (rows : List LineRow) (places : Ranges) → AreApart rows → ◌≡◌ {A = Named} (places.ranges, places.texts) (with_rows ([], []) files rows) → TellTexts files rows places
 tell-texts files rows places apart is =
     let whole : ◌≡◌ {A = Named} (places.ranges, places.texts) (map range_of rows, map (text_for files) rows) = is ∙ all-rows files [] [] rows apart (λ j b at. omega arith) in
     let ranges : places.ranges ≡ map range_of rows = ap (λ (n : Named). n.0) whole in
@@ -150,7 +150,7 @@ names-at (t ∷ sources) (f ∷ files) (d ∷ cs) (y ∷ xs) zero bytes file see
 names-at (t ∷ sources) (f ∷ files) (d ∷ cs) (y ∷ xs) (suc i) bytes file seen x s a b c = names-at sources files cs xs i bytes file seen x s a b c
 
 -- the text of a row, where its file has these names
-text-is : (text : List ℕ) (file : NamedSource) (s : Setting) (labels : List Label) (row : Row) (m : MethodTree) (number : ℕ) → row.method ≡ number + 1 → slice_get (numbered (items file.tree)) number ≡ Some m
+text-is : (text : List ℕ) (file : NamedSource) (s : Setting) (labels : List Label) (row : LineRow) (m : MethodTree) (number : ℕ) → row.method ≡ number + 1 → slice_get (numbered (items file.tree)) number ≡ Some m
     → row_text (Some (file_names text file s labels)) row ≡ file.name ++ codes ":" ++ decimal row.place.line ++ codes " " ++ spelled text m.place m.name
 text-is text file s labels row m number counted at =
     let place : row.method - 1 ≡ number = omega (arith, counted) in
@@ -158,7 +158,7 @@ text-is text file s labels row m number counted at =
     ap (slice_get (map (method_names text s) (numbered (items file.tree)))) place ∙ slice_get-map (method_names text s) (numbered (items file.tree)) number ∙ ap (option_map (method_names text s)) at in
     ap (λ (o : Option MethodNames). file.name ++ codes ":" ++ decimal row.place.line ++ codes " " ++ method_name o) named
 
-pub tells-rows : (sources : List (List ℕ)) (files : List NamedSource) (children : List Children) (xs : List CompiledFile) (rows : List Row) (places : Ranges) → length sources ≡ length files → length children ≡ length files → length xs ≡ length files
+pub tells-rows : (sources : List (List ℕ)) (files : List NamedSource) (children : List Children) (xs : List CompiledFile) (rows : List LineRow) (places : Ranges) → length sources ≡ length files → length children ≡ length files → length xs ≡ length files
     → AreApart rows → All (IsRowOf files) rows → ◌≡◌ {A = Named} (places.ranges, places.texts) (with_rows ([], []) (names_of sources files children xs) rows) → TellsRows sources files rows places
 tells-rows sources files children xs rows places one two three apart all is =
     let names = names_of sources files children xs in

@@ -7,7 +7,7 @@ use Rattle.p8_access.specs.Lives.{Entered}
 use Rattle.p8_access.specs.Timing.{Asks, Goes, played}
 use Rattle.p8_bytecode.specs.declared.op.Op.{Op}
 use Rattle.p8_bytecode.specs.Spelling.{spelled}
-use Rattle.p8_bcog.specs.declared.state.State.{State}
+use Rattle.p8_bcog.specs.declared.state.SpinState.{SpinState}
 use Rattle.p8_bcog.specs.Bytecodes.{clocks, row}
 use Rattle.p8_bcog.specs.Code.{fetched}
 use Rattle.p8_bcog.specs.Replay.{lived}
@@ -26,7 +26,7 @@ IsFetched memory address op = fetched memory address ≡ Some (op, address + len
 -- next one is this, and what it does by the table of bytecodes, from where the cog is, comes to that access.
 pub record IsAskedBy (entered : Entered) (turns : List Turn) (address : ℕ) (op : Op) : Type 0 where
   pub done : ℕ
-  pub s : State
+  pub s : SpinState
   pub begin : ℕ
   pub left : List Turn
   pub clock : ℕ

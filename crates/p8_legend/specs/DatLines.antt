@@ -7,7 +7,7 @@ use Rattle.p8_kinds.specs.declared.children.Children.{Children}
 use Rattle.p8_dat.specs.declared.assembling.LineBegin.{LineBegin}
 use Rattle.p8_image.specs.declared.parts.ObjectPart.{ObjectPart}
 use Rattle.p8_image.specs.Layout.{codes_offset, size_of}
-use Rattle.p8_image.specs.Listing.{further}
+use Rattle.p8_image.specs.Listing.{address_after}
 use Rattle.p8_image.specs.Places.{base_of}
 use Rattle.p8_build.specs.Files.{CompiledFile, line_begins, object_of, setting_of}
 use Rattle.p8_build.specs.Builds.{IsFile, objects_of}
@@ -17,7 +17,7 @@ use Rattle.p8_legend.specs.ProjectLegends.{Named, and_one}
 -- a line stands up to the next one, and the last one up to the codes
 abbrev pub line_end : (base codes_at : ℕ) → List LineBegin → ℕ
 line_end base codes_at [] = codes_at
-line_end base codes_at (line ∷ lines) = further base line.offset
+line_end base codes_at (line ∷ lines) = address_after base line.offset
 
 -- the file and the line
 abbrev pub line_text : (file : List ℕ) → LineBegin → List ℕ
@@ -27,12 +27,12 @@ line_text file line = file ++ codes ":" ++ decimal line.place.line
 abbrev pub with_dat : Named → (file : List ℕ) → (base codes_at : ℕ) → List LineBegin → Named
 with_dat so_far file base codes_at [] = so_far
 with_dat so_far file base codes_at (line ∷ lines) =
-    with_dat (and_one so_far (further base line.offset) (line_end base codes_at lines) (line_text file line)) file base codes_at lines
+    with_dat (and_one so_far (address_after base line.offset) (line_end base codes_at lines) (line_text file line)) file base codes_at lines
 
 -- those of objects that stand one after the other from a base on
 abbrev pub with_dats : Named → (base : ℕ) → List FileNames → List ObjectPart → List (List LineBegin) → Named
 with_dats so_far base (names ∷ files) (object ∷ objects) (lines ∷ others) =
-    with_dats (with_dat so_far names.file base (further base (codes_offset object)) lines) (further base (size_of object)) files objects others
+    with_dats (with_dat so_far names.file base (address_after base (codes_offset object)) lines) (address_after base (size_of object)) files objects others
 with_dats so_far base _ _ _ = so_far
 
 -- where the lines of each file's DAT begin in its object

@@ -7,7 +7,7 @@ use Rattle.p8_bytecode.specs.Reading.{op_at}
 use Rattle.p8_map.specs.declared.names.LocalName.{LocalName}
 use Rattle.p8_map.specs.declared.names.MethodNames.{MethodNames}
 use Rattle.p8_map.specs.declared.names.FileNames.{FileNames}
-use Rattle.p8_legend.specs.declared.table.Row.{Row}
+use Rattle.p8_legend.specs.declared.table.LineRow.{LineRow}
 use Rattle.p8_legend.specs.Legends.{offset_text}
 use Rattle.p8_legend.specs.ProjectLegends.{Named, and_one}
 
@@ -60,10 +60,10 @@ name_in (Some m) (Some offset) = frame_text m offset
 name_in _ _ = []
 
 -- what the bytecode of a row names in the frame of its method, where an image has these bytes; nothing where it names nothing there
-abbrev pub row_local : (image : List ℕ) → Option FileNames → Row → List ℕ
+abbrev pub row_local : (image : List ℕ) → Option FileNames → LineRow → List ℕ
 row_local image names row = name_in (method_of names row.method) (offset_in (op_at image row.address))
 
-abbrev pub with_locals : Named → (image : List ℕ) → List FileNames → List Row → Named
+abbrev pub with_locals : Named → (image : List ℕ) → List FileNames → List LineRow → Named
 with_locals so_far image files [] = so_far
 with_locals so_far image files (row ∷ rows) =
     with_locals (and_one so_far row.address row.end (row_local image (slice_get files row.file) row)) image files rows

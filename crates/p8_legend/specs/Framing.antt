@@ -17,7 +17,7 @@ use Rattle.p8_map.specs.declared.names.MethodNames.{MethodNames}
 use Rattle.p8_meaning.specs.Programs.{Program, Addresses, Target}
 use Rattle.p8_meaning.specs.Lives.{IsMethodOrigin}
 use Rattle.p8_legend.specs.declared.ranges.Ranges.{Ranges}
-use Rattle.p8_legend.specs.declared.table.Row.{Row}
+use Rattle.p8_legend.specs.declared.table.LineRow.{LineRow}
 use Rattle.p8_legend.specs.Frames.{frame_text, method_of}
 use Rattle.p8_legend.specs.Legends.{local_at}
 use Rattle.p8_legend.specs.Rows.{IsRowAt}
@@ -31,8 +31,8 @@ IsOn access w a = ⊥
 
 -- An access that is asked from an address, in a frame that begins at another one: the row of the address is that of the bytecode there, the text is the name of
 -- what stands so many bytes behind the begin of the frame of the row's method, and the access is on what stands there.
-pub record IsNameOfLocal (files : List FileNames) (rows : List Row) (address frame : ℕ) (access : Access) (text : List ℕ) : Type 0 where
-  pub row : Row
+pub record IsNameOfLocal (files : List FileNames) (rows : List LineRow) (address frame : ℕ) (access : Access) (text : List ℕ) : Type 0 where
+  pub row : LineRow
   pub is_at : IsRowAt rows address row
   pub begins : row.address ≡ address
   pub method : MethodNames
@@ -44,7 +44,7 @@ pub record IsNameOfLocal (files : List FileNames) (rows : List Row) (address fra
 
 -- A turn that comes after a past, of a cog that runs Spin, and is asked by the bytecode at an address: where a name is told of that address, it is that of the
 -- local which the turn reads or writes, in the frame of the method that runs. The life began with the origin of any method of the project.
-abbrev pub IsNamedLocal : List FileNames → Program → Addresses → List Row → Ranges → World → List Turn → Turn → Type 0
+abbrev pub IsNamedLocal : List FileNames → Program → Addresses → List LineRow → Ranges → World → List Turn → Turn → Type 0
 IsNamedLocal files program addresses rows locals w past turn =
     (origin : Origin) → cog_state w past turn.key.cog ≡ Running origin → (entered : Entered) → begun w past turn.key.cog ≡ Some (SpinBegun entered)
     → (address : ℕ) → (asked : IsAskedFrom entered (since_begin past turn.key.cog) address)
@@ -52,6 +52,6 @@ IsNamedLocal files program addresses rows locals w past turn =
     → (local_at locals (Some address) ≡ [] → ⊥) → IsNameOfLocal files rows address asked.1.frame turn.access (local_at locals (Some address))
 
 -- so it is for each turn of a history
-abbrev pub LocalsAreNamed : List FileNames → Program → Addresses → List Row → Ranges → World → List Turn → Type 0
+abbrev pub LocalsAreNamed : List FileNames → Program → Addresses → List LineRow → Ranges → World → List Turn → Type 0
 LocalsAreNamed files program addresses rows locals w history =
     (later : List Turn) (turn : Turn) (past : List Turn) → history ≡ later ++ turn ∷ past → IsNamedLocal files program addresses rows locals w past turn

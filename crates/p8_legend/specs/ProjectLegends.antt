@@ -7,10 +7,10 @@ use Rattle.p8_image.specs.declared.parts.Variable.{Variable}
 use Rattle.p8_image.specs.declared.parts.MethodPart.{MethodPart}
 use Rattle.p8_image.specs.declared.parts.ObjectPart.{ObjectPart}
 use Rattle.p8_image.specs.Layout.{codes_offset, size_of}
-use Rattle.p8_image.specs.Listing.{further}
+use Rattle.p8_image.specs.Listing.{address_after}
 use Rattle.p8_legend.specs.declared.ranges.Range.{Range}
 use Rattle.p8_legend.specs.Ranges.{with_range}
-use Rattle.p8_legend.specs.declared.table.Row.{Row}
+use Rattle.p8_legend.specs.declared.table.LineRow.{LineRow}
 use Rattle.p8_map.specs.declared.instances.Instance.{Instance}
 use Rattle.p8_map.specs.declared.names.FileNames.{FileNames}
 use Rattle.p8_map.specs.declared.names.MethodNames.{MethodNames}
@@ -56,30 +56,31 @@ path_of files objects (suc depth) f = if f == 0 then [] else path_behind (path_o
 -- a label stands up to the next one, and the last one up to the codes
 abbrev pub label_end : (base codes_at : ℕ) → List Label → ℕ
 label_end base codes_at [] = codes_at
-label_end base codes_at (label ∷ labels) = further base label.offset
+label_end base codes_at (label ∷ labels) = address_after base label.offset
 
 abbrev pub with_labels : Named → (prefix : List ℕ) → (base codes_at : ℕ) → List Label → Named
 with_labels so_far prefix base codes_at [] = so_far
 with_labels so_far prefix base codes_at (label ∷ labels) =
-    with_labels (and_one so_far (further base label.offset) (label_end base codes_at labels) (prefix ++ label.name)) prefix base codes_at labels
+    with_labels (and_one so_far (address_after base label.offset) (label_end base codes_at labels) (prefix ++ label.name)) prefix base codes_at labels
 
 -- the codes of methods, one after the other
 abbrev pub with_methods : Named → (prefix : List ℕ) → (place : ℕ) → List MethodNames → List MethodPart → Named
 with_methods so_far prefix place (m ∷ names) (method ∷ methods) =
-    with_methods (and_one so_far place (further place (length method.code)) (prefix ++ m.name)) prefix (further place (length method.code)) names methods
+    with_methods (and_one so_far place (address_after place (length method.code)) (prefix ++ m.name)) prefix
+    (address_after place (length method.code)) names methods
 with_methods so_far prefix place _ _ = so_far
 
 abbrev pub with_object : Named → (prefix : List ℕ) → (base : ℕ) → FileNames → ObjectPart → Named
 with_object so_far prefix base names object =
     with_methods
-    (with_labels so_far prefix base (further base (codes_offset object)) names.labels)
-    prefix (further base (codes_offset object)) names.methods object.methods
+    (with_labels so_far prefix base (address_after base (codes_offset object)) names.labels)
+    prefix (address_after base (codes_offset object)) names.methods object.methods
 
 -- objects one after the other, from a number on, in a project with all these
 abbrev pub with_objects : Named → List FileNames → List ObjectPart → (number base : ℕ) → List FileNames → List ObjectPart → Named
 with_objects so_far all parts number base (names ∷ files) (object ∷ objects) =
     with_objects (with_object so_far (path_of all parts (length parts) number) base names object) all parts (number + 1)
-    (further base (size_of object)) files objects
+    (address_after base (size_of object)) files objects
 with_objects so_far all parts number base _ _ = so_far
 
 -- ---- the variables of an instance
@@ -92,8 +93,8 @@ and_if true so_far address end text = and_one so_far address end text
 -- those of one size, one after the other
 abbrev pub with_sized : Named → (size place : ℕ) → (prefix : List ℕ) → (names : List (List ℕ)) → List Variable → Named
 with_sized so_far size place prefix (name ∷ names) (v ∷ variables) =
-    with_sized (and_if (v.size == size) so_far place (further place (sized_bytes size v)) (prefix ++ name)) size
-    (further place (sized_bytes size v)) prefix names variables
+    with_sized (and_if (v.size == size) so_far place (address_after place (sized_bytes size v)) (prefix ++ name)) size
+    (address_after place (sized_bytes size v)) prefix names variables
 with_sized so_far size place prefix _ _ = so_far
 
 -- longs come first, then words, then bytes
@@ -125,10 +126,10 @@ method_name None = []
 method_name (Some m) = m.name
 
 -- the file, the line and the method of a row
-abbrev pub row_text : Option FileNames → Row → List ℕ
+abbrev pub row_text : Option FileNames → LineRow → List ℕ
 row_text None row = []
 row_text (Some names) row = names.file ++ codes ":" ++ decimal row.place.line ++ codes " " ++ method_name (slice_get names.methods (row.method - 1))
 
-abbrev pub with_rows : Named → List FileNames → List Row → Named
+abbrev pub with_rows : Named → List FileNames → List LineRow → Named
 with_rows so_far files [] = so_far
 with_rows so_far files (row ∷ rows) = with_rows (and_one so_far row.address row.end (row_text (slice_get files row.file) row)) files rows

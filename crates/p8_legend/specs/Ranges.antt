@@ -2,7 +2,7 @@
 use Rattle.std.specs.Prelude.{ℕ, suc, ◌-◌, ◌≤◌, ◌&&◌, ◌||◌, nat_le, nat_lt, if◌then◌else◌, Bool, List, [], ◌∷◌, ◌++◌, Option, Some, None, option_map, slice_get}
 use Rattle.std.specs.Str.{str_eq_ignore_ascii_case}
 use Rattle.std.proofs.Props.{props}
-use Rattle.p8_legend.specs.declared.ranges.Found.{Found}
+use Rattle.p8_legend.specs.declared.ranges.FoundRange.{FoundRange}
 use Rattle.p8_legend.specs.declared.ranges.Range.{Range}
 
 -- each begins at or after this address, and at or after the end of the one before it; one may have no byte
@@ -29,11 +29,11 @@ abbrev pub holds : (address : ℕ) → Range → Bool
 holds address r = nat_le r.address address && nat_lt address r.end
 
 -- one range more comes before it
-abbrev pub behind_one : Found → Found
+abbrev pub behind_one : FoundRange → FoundRange
 behind_one found = record { number = suc found.number; offset = found.offset }
 
 -- the first range in which an address lies
-abbrev pub found_at : List Range → (address : ℕ) → Option Found
+abbrev pub found_at : List Range → (address : ℕ) → Option FoundRange
 found_at [] address = None
 found_at (r ∷ ranges) address =
     if holds address r then Some (record { number = 0; offset = address - r.address }) else option_map behind_one (found_at ranges address)

@@ -16,7 +16,7 @@ use Rattle.p8_bcog.specs.Counters.{IsCounter}
 use Rattle.p8_meaning.specs.Programs.{Program, Addresses, Target}
 use Rattle.p8_meaning.specs.Lives.{IsMethodOrigin, says_for}
 use Rattle.p8_legend.specs.declared.ranges.Ranges.{Ranges}
-use Rattle.p8_legend.specs.declared.table.Row.{Row}
+use Rattle.p8_legend.specs.declared.table.LineRow.{LineRow}
 use Rattle.p8_legend.specs.Legends.{place_text}
 use Rattle.p8_legend.specs.Origins.{IsPlaceIn}
 use Rattle.p8_legend.specs.Rows.{IsRowAt}
@@ -37,9 +37,9 @@ pub record TellsPlace (sources : List (List ℕ)) (files : List NamedSource) (pl
   pub told : place_text places (Some address) ≡ codes " " ++ text
 
 -- of an address that a row holds the place of that row is told, and of an address that no row holds none
-pub record TellsRows (sources : List (List ℕ)) (files : List NamedSource) (rows : List Row) (places : Ranges) : Type 0 where
-  pub told : (address : ℕ) (row : Row) → IsRowAt rows address row → TellsPlace sources files places address row.file row.method row.place
-  pub untold : (address : ℕ) → ((row : Row) → ¬ IsRowAt rows address row) → place_text places (Some address) ≡ []
+pub record TellsRows (sources : List (List ℕ)) (files : List NamedSource) (rows : List LineRow) (places : Ranges) : Type 0 where
+  pub told : (address : ℕ) (row : LineRow) → IsRowAt rows address row → TellsPlace sources files places address row.file row.method row.place
+  pub untold : (address : ℕ) → ((row : LineRow) → ¬ IsRowAt rows address row) → place_text places (Some address) ≡ []
 
 -- of an address the place of this statement is told
 pub record TellsStatement (sources : List (List ℕ)) (files : List NamedSource) (places : Ranges) (address : ℕ) (statement : Option Place) : Type 0 where

@@ -11,7 +11,7 @@ use p8_build::AcceptedFile;
 use p8_dat::LineBegin;
 use p8_image::{ObjectPart, Offsets};
 use p8_instr::push_text;
-use p8_map::{FileNames, further};
+use p8_map::{FileNames, address_after};
 use p8_tree::Text;
 use p8_words::NoMemory;
 use std::alloc::Global;
@@ -33,7 +33,7 @@ fn line_end(base: u16, codes: u16, rest: &[LineBegin]) -> u16
 {
     match rest {
         [] => codes,
-        [next, ..] => further(base, u64::from(next.offset)),
+        [next, ..] => address_after(base, u64::from(next.offset)),
     }
 }
 
@@ -50,7 +50,7 @@ fn push_dat(
 {
     while let [line, rest @ ..] = begins {
         let range = Range {
-            address: further(base, u64::from(line.offset)),
+            address: address_after(base, u64::from(line.offset)),
             end: line_end(base, codes, rest),
         };
         let text = line_name(alloc, file, *line)?;
@@ -61,7 +61,7 @@ fn push_dat(
 }
 
 /// The lines of the DAT of a project's objects, which stand one after the other.
-#[tactic(auto, using(crate::proofs::Further::further_low))]
+#[tactic(auto, using(crate::proofs::Addresses::address_after_low))]
 pub(crate) fn dat_lines_of(
     alloc: Global,
     mut files: &[FileNames],
@@ -80,7 +80,7 @@ pub(crate) fn dat_lines_of(
             return Ok(lines);
         };
         let offsets = Offsets::of(object);
-        let codes = further(base, u64::from(offsets.codes));
+        let codes = address_after(base, u64::from(offsets.codes));
         let begins = found.dat.lines.as_slice();
         push_dat(
             alloc,
@@ -90,7 +90,7 @@ pub(crate) fn dat_lines_of(
             codes,
             begins,
         )?;
-        base = further(base, u64::from(offsets.size));
+        base = address_after(base, u64::from(offsets.size));
         files = others;
         objects = more;
         accepted = rest;

@@ -4,6 +4,7 @@
 #![tactic(auto)]
 
 mod code_laws;
+mod code_places;
 mod dat_laws;
 mod dat_lines;
 mod instances;
@@ -17,7 +18,6 @@ mod objects;
 mod parts;
 mod paths;
 mod place_laws;
-mod places;
 mod project;
 mod project_names;
 mod ranges;
@@ -44,13 +44,13 @@ pub use parts::legend_of_parts;
 pub use place_laws::{places_are_those_of_rows, turns_have_the_places_of_their_statements};
 pub use project::table_of_accepted;
 pub use project_names::{legend_of_accepted, project_legend};
-pub use ranges::{Found, Range, Ranges};
+pub use ranges::{FoundRange, Range, Ranges};
 pub use row_laws::{
     accesses_are_asked_for_the_statements_of_their_rows,
     turns_are_asked_for_the_statements_of_their_rows,
 };
 pub use statement_laws::statements_stand_by_their_lines;
-pub use table::{LineTable, Row};
+pub use table::{LineRow, LineTable};
 pub use table_laws::{
     each_byte_of_code_has_a_row, rows_are_of_their_methods, table_tells_each_address_once,
 };

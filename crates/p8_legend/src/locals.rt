@@ -8,7 +8,7 @@ ghost use Rattle.p8_legend.specs.Frames.{own_text, parameter_text, row_local, wi
 
 use crate::legend::push_offset;
 use crate::ranges::{Range, Ranges};
-use crate::table::Row;
+use crate::table::LineRow;
 use p8_bytecode::{Op, take_op};
 use p8_instr::push_text;
 use p8_map::{FileNames, LocalName, MethodNames};
@@ -126,7 +126,7 @@ pub fn push_frame(out: &mut Vec<u8>, names: &MethodNames, offset: u64) -> Result
 }
 
 /// The names of the method of this number, counted from 1, of a file.
-fn method_of<'a>(files: &'a [FileNames], row: &Row) -> Option<&'a MethodNames>
+fn method_of<'a>(files: &'a [FileNames], row: &LineRow) -> Option<&'a MethodNames>
     ensures { MatchOption result (method_among (slice_get files.now row.now.file) row.now.method ≡ None)
         (λ m. method_among (slice_get files.now row.now.file) row.now.method ≡ Some m.now) }
 {
@@ -140,7 +140,12 @@ fn method_of<'a>(files: &'a [FileNames], row: &Row) -> Option<&'a MethodNames>
 }
 
 /// What the bytecode of a row names in the frame of its method.
-fn local_name(alloc: Global, image: &[u8], files: &[FileNames], row: &Row) -> Result<Text, NoMemory>
+fn local_name(
+    alloc: Global,
+    image: &[u8],
+    files: &[FileNames],
+    row: &LineRow,
+) -> Result<Text, NoMemory>
     ensures { IfOk result (λ text. text ≡ row_local image.now (slice_get files.now row.now.file) row.now) }
 {
     let mut text = Vec::new(alloc);
@@ -157,7 +162,7 @@ pub(crate) fn locals_of(
     alloc: Global,
     image: &[u8],
     files: &[FileNames],
-    mut rows: &[Row],
+    mut rows: &[LineRow],
 ) -> Result<Ranges, NoMemory>
     ensures { IfOk result (λ locals. (locals.ranges, locals.texts) ≡ with_locals ([], []) image.now files.now rows.now) }
 {

@@ -8,7 +8,7 @@ use crate::ranges::{Range, Ranges};
 use p8_image::{MethodPart, ObjectPart, Offsets};
 use p8_instr::push_text;
 use p8_kinds::Label;
-use p8_map::{FileNames, MethodNames, further};
+use p8_map::{FileNames, MethodNames, address_after};
 use p8_tree::Text;
 use p8_words::NoMemory;
 use std::alloc::Global;
@@ -32,7 +32,7 @@ fn label_end(base: u16, codes: u16, rest: &[Label]) -> u16
 {
     match rest {
         [] => codes,
-        [next, ..] => further(base, u64::from(next.offset)),
+        [next, ..] => address_after(base, u64::from(next.offset)),
     }
 }
 
@@ -49,7 +49,7 @@ fn push_labels(
 {
     while let [label, rest @ ..] = labels {
         let range = Range {
-            address: further(base, u64::from(label.offset)),
+            address: address_after(base, u64::from(label.offset)),
             end: label_end(base, codes, rest),
         };
         let text = named(alloc, prefix, label.name.as_slice())?;
@@ -83,7 +83,7 @@ fn push_methods(
         let [part, rest @ ..] = parts else {
             return Ok(());
         };
-        let end = further(place, part.code.len() as u64);
+        let end = address_after(place, part.code.len() as u64);
         let range = Range {
             address: place,
             end,
@@ -98,7 +98,7 @@ fn push_methods(
 }
 
 /// Puts the names of an object behind the names so far, each of them behind a prefix.
-#[tactic(auto, using(crate::proofs::Further::further_low))]
+#[tactic(auto, using(crate::proofs::Addresses::address_after_low))]
 fn push_object(
     alloc: Global,
     names: &mut Ranges,
@@ -109,7 +109,7 @@ fn push_object(
 ) -> Result<(), NoMemory>
     ensures { OnOk result ((names.new.ranges, names.new.texts) ≡ with_object (names.old.ranges, names.old.texts) prefix.now base file.now object.now) }
 {
-    let codes = further(base, u64::from(Offsets::of(object).codes));
+    let codes = address_after(base, u64::from(Offsets::of(object).codes));
     push_labels(alloc, names, prefix, base, codes, file.labels.as_slice())?;
     let methods = file.methods.as_slice();
     push_methods(
@@ -123,7 +123,7 @@ fn push_object(
 }
 
 /// The names of what stands in a project's objects, one after the other.
-#[tactic(auto, using(crate::proofs::Further::further_low))]
+#[tactic(auto, using(crate::proofs::Addresses::address_after_low))]
 pub(crate) fn names_of(
     alloc: Global,
     all: &[FileNames],
@@ -144,7 +144,7 @@ pub(crate) fn names_of(
         push_path(&mut prefix, all, parts, parts.len(), number)?;
         push_object(alloc, &mut names, &prefix, base, file, object)?;
         number = number.checked_add(1).ok_or(NoMemory)?;
-        base = further(base, u64::from(Offsets::of(object).size));
+        base = address_after(base, u64::from(Offsets::of(object).size));
         files = others;
         objects = rest;
     }

@@ -4,12 +4,12 @@ ghost use Rattle.p8_legend.specs.DatLines.{with_dats};
 ghost use Rattle.p8_legend.specs.Frames.{with_locals};
 ghost use Rattle.p8_legend.specs.ProjectLegends.{names_in, with_rows};
 
+use crate::code_places::places_of;
 use crate::dat_lines::dat_lines_of;
 use crate::instances::push_instances;
 use crate::legend::Legend;
 use crate::locals::locals_of;
 use crate::objects::names_of;
-use crate::places::places_of;
 use crate::table::LineTable;
 use p8_build::AcceptedFile;
 use p8_image::ObjectPart;

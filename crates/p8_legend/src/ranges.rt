@@ -19,7 +19,7 @@ pub struct Range {
 
 /// A range in which an address lies.
 #[derive(Clone, Copy, Debug, PartialEq, Eq)]
-pub struct Found {
+pub struct FoundRange {
     /// How many ranges come before it.
     pub number: usize,
     /// How many bytes of it come before the address.
@@ -70,7 +70,7 @@ impl Ranges {
     }
 
     /// The range in which an address lies. It takes the logarithm of the number of ranges.
-    pub fn find(&self, address: u16) -> Option<Found>
+    pub fn find(&self, address: u16) -> Option<FoundRange>
         ensures { result ≡ found_at self.now.ranges address }
     {
         let begun = self.begun_by(address);
@@ -79,7 +79,7 @@ impl Ranges {
         }
         let range = self.ranges.as_slice()[begun - 1];
         if address < range.end {
-            Some(Found {
+            Some(FoundRange {
                 number: begun - 1,
                 offset: address - range.address,
             })

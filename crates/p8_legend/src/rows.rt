@@ -2,11 +2,11 @@
 ghost use Rattle.std.specs.Prelude.{◌≡◌, ◌++◌, map, OnOk, IfOk};
 ghost use Rattle.p8_legend.specs.Rows.{end_of, line_row, line_rows, code_rows, rows_from};
 
-use crate::table::{LineTable, Row};
+use crate::table::{LineRow, LineTable};
 use p8_build::AcceptedFile;
 use p8_gen::Line;
 use p8_image::{ObjectPart, Offsets};
-use p8_map::further;
+use p8_map::address_after;
 use p8_stmt::MethodCode;
 use p8_tree::List;
 use p8_words::NoMemory;
@@ -16,7 +16,7 @@ use std::alloc::{AllocError, Global};
 const FIRST_BASE: u16 = 16;
 
 /// The rows of objects that stand one after the other, with the codes of their files' methods.
-#[tactic(auto, using(crate::proofs::Further::further_low))]
+#[tactic(auto, using(crate::proofs::Addresses::address_after_low))]
 pub(crate) fn rows_of(
     alloc: Global,
     mut objects: &[ObjectPart],
@@ -32,9 +32,9 @@ pub(crate) fn rows_of(
             return Ok(LineTable { rows });
         };
         let offsets = Offsets::of(object);
-        let at = further(base, u64::from(offsets.codes));
+        let at = address_after(base, u64::from(offsets.codes));
         push_codes(&mut rows, file, at, found.codes.as_slice())?;
-        base = further(base, u64::from(offsets.size));
+        base = address_after(base, u64::from(offsets.size));
         file = file.checked_add(1).ok_or(NoMemory)?;
         objects = others;
         accepted = rest;
@@ -44,7 +44,7 @@ pub(crate) fn rows_of(
 
 /// Appends the rows of a file's methods, whose codes stand one after the other from an address on.
 fn push_codes(
-    rows: &mut List<Row>,
+    rows: &mut List<LineRow>,
     file: u8,
     mut at: u16,
     mut codes: &[MethodCode],
@@ -55,7 +55,7 @@ fn push_codes(
     while let [code, rest @ ..] = codes {
         let size = code.bytes.len() as u64;
         push_lines(rows, file, method, at, size, code.lines.as_slice())?;
-        at = further(at, size);
+        at = address_after(at, size);
         method = method.checked_add(1).ok_or(AllocError)?;
         codes = rest;
     }
@@ -64,7 +64,7 @@ fn push_codes(
 
 /// Appends the rows of a method whose code, of so many bytes, stands at an address.
 fn push_lines(
-    rows: &mut List<Row>,
+    rows: &mut List<LineRow>,
     file: u8,
     method: u8,
     at: u16,
@@ -91,12 +91,12 @@ fn end_of(size: u64, rest: &[Line]) -> u64
 }
 
 /// The row of a line of code that stands at an address and ends at a place.
-fn row_of(file: u8, method: u8, at: u16, end: u64, line: Line) -> Row
+fn row_of(file: u8, method: u8, at: u16, end: u64, line: Line) -> LineRow
     ensures { result ≡ line_row file method at end line }
 {
-    Row {
-        address: further(at, u64::from(line.offset)),
-        end: further(at, end),
+    LineRow {
+        address: address_after(at, u64::from(line.offset)),
+        end: address_after(at, end),
         file,
         method,
         place: line.statement,

@@ -7,7 +7,7 @@ use p8_tree::{List, Place};
 
 /// A row of a line table: one bytecode of an image.
 #[derive(Clone, Copy, Debug, PartialEq, Eq)]
-pub struct Row {
+pub struct LineRow {
     /// Where the bytecode begins in the hub.
     pub address: u16,
     /// Where it ends: the address of the byte after it.
@@ -24,13 +24,13 @@ pub struct Row {
 #[derive(Drop)]
 pub struct LineTable {
     /// A row for each bytecode.
-    pub rows: List<Row>,
+    pub rows: List<LineRow>,
 }
 
 impl LineTable {
     /// The row of the bytecode that stands at an address; none outside the code of methods. It takes the logarithm of the rows' number.
-    pub fn at(&self, address: u16) -> Option<Row>
-        ensures { AreApart self.now.rows → MatchOption result ((row : Row) → ¬ IsRowAt self.now.rows address row) (IsRowAt self.now.rows address) }
+    pub fn at(&self, address: u16) -> Option<LineRow>
+        ensures { AreApart self.now.rows → MatchOption result ((row : LineRow) → ¬ IsRowAt self.now.rows address row) (IsRowAt self.now.rows address) }
     {
         let begun = self.begun_by(address);
         if begun == 0 {

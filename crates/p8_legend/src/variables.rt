@@ -5,7 +5,7 @@ ghost use Rattle.p8_legend.specs.ProjectLegends.{and_if, with_sized, with_variab
 use crate::objects::named;
 use crate::ranges::{Range, Ranges};
 use p8_image::Variable;
-use p8_map::{after_size, further, sized_bytes};
+use p8_map::{address_after, after_size, sized_bytes};
 use p8_tree::Text;
 use p8_words::NoMemory;
 use std::alloc::Global;
@@ -45,7 +45,7 @@ fn push_sized(
         let [variable, rest @ ..] = variables else {
             return Ok(());
         };
-        let end = further(place, sized_bytes(size, *variable));
+        let end = address_after(place, sized_bytes(size, *variable));
         let range = Range {
             address: place,
             end,

@@ -8,12 +8,12 @@ use Rattle.p8_tree.specs.declared.places.Place.{Place}
 use Rattle.p8_tree.specs.Places.{PlaceBefore}
 use Rattle.p8_lexer.specs.Lexing.{is_letter}
 use Rattle.p8_lexer.specs.Places.{start, behind}
-use Rattle.p8_lexer.specs.declared.spelling.Mark.{Mark}
+use Rattle.p8_lexer.specs.declared.spelling.Checkpoint.{Checkpoint}
 use Rattle.p8_lexer.specs.Marks.{AreMarks, IsMark, LeadsTo}
 use Rattle.p8_lexer.specs.Spelling.{begins_at, word_at}
 
 -- the mark of this number
-pub mark-at : (text : List ℕ) (marks : List Mark) → AreMarks text marks → (i : ℕ) (m : Mark) → slice_get marks i ≡ Some m → IsMark text m
+pub mark-at : (text : List ℕ) (marks : List Checkpoint) → AreMarks text marks → (i : ℕ) (m : Checkpoint) → slice_get marks i ≡ Some m → IsMark text m
 mark-at text [] are i m at = let within = slice_get_within [] i m at in absurd (omega (arith, within))
 mark-at text (x ∷ marks) are zero m at = subst (IsMark text) (same_Some x m at) are.0
 mark-at text (x ∷ marks) are (suc i) m at = mark-at text marks are.1 i m at
@@ -27,15 +27,15 @@ pub first-mark : (text : List ℕ) → IsMark text (record { at = 0; before = 0;
 first-mark text = ((omega arith, omega arith, omega arith, omega arith), λ place later. first-leads text place)
 
 -- one more behind the others
-and-one : (text : List ℕ) (marks : List Mark) (m : Mark) → AreMarks text marks → IsMark text m → AreMarks text (marks ++ m ∷ [])
+and-one : (text : List ℕ) (marks : List Checkpoint) (m : Checkpoint) → AreMarks text marks → IsMark text m → AreMarks text (marks ++ m ∷ [])
 and-one text [] m are is = (is, tt)
 and-one text (x ∷ marks) m are is = (are.0, and-one text marks m are.1 is)
 
-pub one-more : (text : List ℕ) (marks new : List Mark) (m : Mark) (own : Bool) → AreMarks text marks → IsMark text m → new ≡ marks ++ (if own then m ∷ [] else []) → AreMarks text new
+pub one-more : (text : List ℕ) (marks new : List Checkpoint) (m : Checkpoint) (own : Bool) → AreMarks text marks → IsMark text m → new ≡ marks ++ (if own then m ∷ [] else []) → AreMarks text new
 one-more text marks new m true are is e = subst (AreMarks text) (sym e) (and-one text marks m are is)
 one-more text marks new m false are is e = subst (AreMarks text) (sym (e ∙ nothing marks)) are
   where
-    nothing : (marks : List Mark) → marks ++ [] ≡ marks
+    nothing : (marks : List Checkpoint) → marks ++ [] ≡ marks
     nothing [] = refl
     nothing (x ∷ marks) = ap (λ xs. x ∷ xs) (nothing marks)
 
@@ -74,7 +74,7 @@ not-there : (place at : Place) (c : ℕ) → PlaceBefore at place → begins_at 
 not-there place at c (inl l) = ap (λ (b : Bool). b && ((at.column == place.column) && is_letter c)) (less-not_same at.line place.line l)
 not-there place at c (inr l) = ap (λ (b : Bool). (at.line == place.line) && (b && is_letter c)) (less-not_same at.column place.column l.1) ∙ never (at.line == place.line)
 
-pub leads-on : (text : List ℕ) (m : Mark) (c : ℕ) → m.at < length text → 1 ≤ m.place.column → c ≡ get_or text m.at 0 → ((place : Place) → PlaceBefore m.place place → LeadsTo text place m)
+pub leads-on : (text : List ℕ) (m : Checkpoint) (c : ℕ) → m.at < length text → 1 ≤ m.place.column → c ≡ get_or text m.at 0 → ((place : Place) → PlaceBefore m.place place → LeadsTo text place m)
     → (place : Place) → PlaceBefore (behind m.before m.place c) place → LeadsTo text place (record { at = m.at + 1; before = c; place = behind m.before m.place c })
 leads-on text m c within counted is leads place later =
     let before = sooner m.place (behind m.before m.place c) place (onward m.before m.place c counted) later in
@@ -83,6 +83,6 @@ leads-on text m c within counted is leads place later =
     ∙ ap (word_at place m.before m.place) (drop_more text m.at 0 within ∙ ap (λ d. d ∷ rest) (sym is))
     ∙ ap (λ (b : Bool). if b then c ∷ rest else word_at place c (behind m.before m.place c) rest) (not-there place m.place c before)
 
-pub mark-in : (text own : List ℕ) (marks some : List Mark) (i : ℕ) (m : Mark) → own ≡ text → some ≡ marks → AreMarks own marks → i < length some → m ≡ get_or some i m → IsMark text m
+pub mark-in : (text own : List ℕ) (marks some : List Checkpoint) (i : ℕ) (m : Checkpoint) → own ≡ text → some ≡ marks → AreMarks own marks → i < length some → m ≡ get_or some i m → IsMark text m
 mark-in text own marks some i m same are_same are within is =
     mark-at text some (subst (λ (t : List ℕ). AreMarks t some) same (subst (AreMarks own) (sym are_same) are)) i m (slice_get_read some (length some) i m refl within is)

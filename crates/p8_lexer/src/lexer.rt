@@ -11,7 +11,7 @@ ghost use Rattle.p8_lexer.specs.Cutting.{piece_tokens};
 use crate::characters::{Characters, ends_in_half, is_utf16, mark_length};
 use crate::cut::first_cut;
 use crate::piece::{Cut, PieceKind};
-use crate::place::{START, place_at};
+use crate::source_places::{START, place_at};
 use crate::token::{Token, Tokens};
 use p8_tree::{Fault, Place, Refusal};
 use p8_words::Fail;

@@ -20,7 +20,7 @@ pub enum Piece {
 }
 
 /// Lets go of a value, as of a piece that can't stand where it does, and gives this answer.
-pub fn without<T: Drop, A>(unused: T, answer: A) -> A
+pub fn discarding<T: Drop, A>(unused: T, answer: A) -> A
     ensures { result ≡ answer }
 {
     drop(unused);

@@ -7,7 +7,7 @@ ghost use Rattle.p8_lexer.specs.Words.{capital, same, is_spelled, word_spelled, 
 ghost use Rattle.p8_lexer.specs.Table.{row_of, word_in, word_of_row};
 
 use crate::characters::Characters;
-use crate::table::{Row, key, numbers_at, table};
+use crate::table::{WordEntry, key, numbers_at, table};
 use crate::token::{Token, TokenKind};
 use crate::word::Word;
 
@@ -40,7 +40,7 @@ pub fn named(text: &Characters) -> Option<Word>
 }
 
 // The word of the first of the rows of these numbers that is spelled as the characters are.
-fn word_in(rows: &[Row], numbers: &[u16], text: &Characters) -> Option<Word>
+fn word_in(rows: &[WordEntry], numbers: &[u16], text: &Characters) -> Option<Word>
     ensures { result ≡ word_in (map row_of rows.now) numbers.now (map capital text.now) }
 {
     for number in numbers {
@@ -52,7 +52,7 @@ fn word_in(rows: &[Row], numbers: &[u16], text: &Characters) -> Option<Word>
 }
 
 // The word of the row of this number, where it is spelled as the characters are.
-fn word_of_row(rows: &[Row], number: u16, text: &Characters) -> Option<Word>
+fn word_of_row(rows: &[WordEntry], number: u16, text: &Characters) -> Option<Word>
     ensures { result ≡ word_of_row (slice_get (map row_of rows.now) number) (map capital text.now) }
 {
     let row = rows.get(usize::from(number))?;

@@ -4,8 +4,8 @@ ghost use Rattle.p8_lexer.specs.Marks.{AreMarks, is_prop-AreMarks, IsMark, Leads
 ghost use Rattle.p8_lexer.specs.Spelling.{begins_at, spelled, text_in, word_at};
 
 use crate::characters::Characters;
-use crate::place::{START, behind};
 use crate::run::is_letter;
+use crate::source_places::{START, behind};
 use p8_tree::{Place, Text};
 use p8_words::NoMemory;
 use std::alloc::Global;
@@ -16,7 +16,7 @@ const STRIDE: usize = 64;
 
 /// A place of a text from which a word can be looked for.
 #[derive(Clone, Copy)]
-pub(crate) struct Mark {
+pub(crate) struct Checkpoint {
     /// How many characters stand before it.
     pub(crate) at: usize,
     /// The last one of them; 0 is none.
@@ -26,7 +26,7 @@ pub(crate) struct Mark {
 }
 
 /// Where a text begins.
-const FIRST: Mark = Mark {
+const FIRST: Checkpoint = Checkpoint {
     at: 0,
     before: 0,
     place: START,
@@ -36,7 +36,7 @@ const FIRST: Mark = Mark {
 #[derive(Drop)]
 pub struct Spellings<'a> {
     text: Characters<'a>,
-    marks: Vec<Mark>,
+    marks: Vec<Checkpoint>,
     ghost short: { length text ≤ 2 ^ 20 },
     ghost marked: { AreMarks text marks.items } by { is_prop-AreMarks text marks.items },
 }
@@ -75,7 +75,7 @@ impl<'a> Spellings<'a> {
     }
 
     /// The mark of a number; the first one, where there is none.
-    fn mark_at(&self, number: usize) -> Mark
+    fn mark_at(&self, number: usize) -> Checkpoint
         ensures { IsMark self.now result }
     {
         match self.marks.get(number) {
@@ -85,7 +85,7 @@ impl<'a> Spellings<'a> {
     }
 
     /// A mark before a place; the first one, where no other is known to be.
-    fn mark_before(&self, place: Place) -> Mark
+    fn mark_before(&self, place: Place) -> Checkpoint
         ensures lies { LiesIn self.now result }
         ensures leads { LeadsTo self.now place result }
     {
@@ -102,7 +102,7 @@ impl<'a> Spellings<'a> {
 }
 
 /// The marks of a text, one in each stride.
-fn marks_of(alloc: Global, text: &Characters) -> Result<Vec<Mark>, NoMemory>
+fn marks_of(alloc: Global, text: &Characters) -> Result<Vec<Checkpoint>, NoMemory>
     requires { length text.now ≤ 2 ^ 20 }
     ensures { IfOk result (λ marks. AreMarks text.now marks.items) }
 {
@@ -116,7 +116,7 @@ fn marks_of(alloc: Global, text: &Characters) -> Result<Vec<Mark>, NoMemory>
 }
 
 /// Puts a mark, if it is the one of its stride.
-fn put(marks: &mut Vec<Mark>, mark: Mark) -> Result<(), NoMemory>
+fn put(marks: &mut Vec<Checkpoint>, mark: Checkpoint) -> Result<(), NoMemory>
     ensures { OnOk result (marks.new.items ≡ marks.old.items ++ (if mark.at % 64 == 0 then mark ∷ [] else [])) }
 {
     if mark.at % STRIDE == 0 {
@@ -126,7 +126,7 @@ fn put(marks: &mut Vec<Mark>, mark: Mark) -> Result<(), NoMemory>
 }
 
 /// The mark behind one of them.
-fn next_mark(text: &Characters, mark: Mark) -> Mark
+fn next_mark(text: &Characters, mark: Checkpoint) -> Checkpoint
     requires short { length text.now ≤ 2 ^ 20 }
     requires within { mark.at < length text.now }
     requires mark { IsMark text.now mark }
@@ -134,7 +134,7 @@ fn next_mark(text: &Characters, mark: Mark) -> Mark
     ensures mark { IsMark text.now result }
 {
     let c = text.at(mark.at);
-    Mark {
+    Checkpoint {
         at: mark.at + 1,
         before: c,
         place: behind(mark.before, mark.place, c),
@@ -149,7 +149,7 @@ fn begins_at(place: Place, at: Place, c: u8) -> bool
 }
 
 /// How many characters stand before the word that begins at a place, looked for from a mark on; all, where no word begins there.
-fn word_from(text: &Characters, mark: Mark, place: Place) -> usize
+fn word_from(text: &Characters, mark: Checkpoint, place: Place) -> usize
     requires short { length text.now ≤ 2 ^ 20 }
     requires lies { LiesIn text.now mark }
     ensures within { result ≤ length text.now }

@@ -11,12 +11,12 @@ use crate::word::Word;
 pub const SYMBOL_COUNT: u8 = 71;
 
 /// A spelling, in capitals, its word, and what that means.
-pub type Row = (&'static str, Word, Meaning);
+pub type WordEntry = (&'static str, Word, Meaning);
 
 // Each word stands here at its own number, so the symbols come first; the five that are neither a symbol nor reserved
 // have no characters. After them stand the further spellings of conditions.
 #[rattlefmt::skip]
-static TABLE: [Row; 267] = [
+static TABLE: [WordEntry; 267] = [
     ("++", Word::PlusPlus, Meaning::Changes(0x20, 0x28)),
     ("--", Word::MinusMinus, Meaning::Changes(0x30, 0x38)),
     ("~", Word::Tilde, Meaning::Changes(0x10, 0x18)),
@@ -362,7 +362,7 @@ static STARTS: [u16; 513] = [
 ];
 
 /// All rows of the table.
-pub fn table() -> &'static [Row]
+pub fn table() -> &'static [WordEntry]
     ensures words { map row_of result.now ≡ rows }
     ensures meanings { map (λ r. r.2) result.now ≡ map (λ r. meaning r.1) rows }
 {
@@ -370,7 +370,7 @@ pub fn table() -> &'static [Row]
 }
 
 /// The rows of the symbols, which don't begin with a letter.
-pub fn symbol_rows() -> &'static [Row]
+pub fn symbol_rows() -> &'static [WordEntry]
     ensures { map row_of result.now ≡ symbol_rows }
 {
     &table()[..SYMBOL_COUNT as usize]

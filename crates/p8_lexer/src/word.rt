@@ -5,7 +5,7 @@ ghost use Rattle.p8_lexer.specs.Words.{spelling, symbols};
 ghost use Rattle.p8_lexer.specs.Meanings.{meaning, first_by, word_by};
 
 use crate::meaning::{Meaning, Sought};
-use crate::table::{Row, SYMBOL_COUNT, symbol_rows, table};
+use crate::table::{SYMBOL_COUNT, WordEntry, symbol_rows, table};
 use std::fmt::{self, Debug, Formatter, Write};
 
 /// What one token is to a reader of Spin: a symbol, a reserved word, or one of five kinds.
@@ -67,7 +67,7 @@ pub enum Word {
 }
 
 // The word of the row of this number.
-fn word_at(rows: &[Row], number: u8) -> Option<Word>
+fn word_at(rows: &[WordEntry], number: u8) -> Option<Word>
     ensures { result ≡ option_map (λ row. row.1) (slice_get rows.now number) }
 {
     match rows.get(usize::from(number)).copied() {
@@ -77,7 +77,7 @@ fn word_at(rows: &[Row], number: u8) -> Option<Word>
 }
 
 // The first word of these rows that is sought so.
-fn first_by(rows: &[Row], sought: Sought) -> Option<Word>
+fn first_by(rows: &[WordEntry], sought: Sought) -> Option<Word>
     ensures { result ≡ first_by sought (map (λ row. row.1) rows.now) }
 {
     for (_, word, _) in rows {

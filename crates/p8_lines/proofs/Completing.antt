@@ -14,8 +14,8 @@ use Rattle.p8_lexer.specs.Pieces.{Piece, tree}
 use Rattle.p8_lines.specs.declared.sign.Sign.{Sign}
 use Rattle.p8_lines.specs.declared.sign.Sign.TheVariants as sign
 use Rattle.p8_lines.specs.declared.arrow.Arrow.{Arrow}
-use Rattle.p8_lines.specs.declared.state.State.{State}
-use Rattle.p8_lines.specs.declared.state.State.TheVariants as state
+use Rattle.p8_lines.specs.declared.state.LineState.{LineState}
+use Rattle.p8_lines.specs.declared.state.LineState.TheVariants as state
 use Rattle.p8_lines.specs.Diagram.{Phrase, choices, behind_in}
 use Rattle.p8_lines.specs.Tokens as tokens
 use Rattle.p8_lines.specs.Tokens.{LineToken, string_length, piece}
@@ -157,16 +157,16 @@ wz = record { token = a_word_of word.Wz; word = word.Wz; is = wz_word }
 
 -- completions
 
-record Completion (q : State) : Type 0 where
+record Completion (q : LineState) : Type 0 where
   row : List Piece
   tokens : List LineToken
   is : Row q row tokens
 
 -- a token takes an arrow
-takes : (l : List Arrow) (x : Spelled) (r : State) → target l x.word (string_length x.token) ≡ Some r → Follows l x.token r
+takes : (l : List Arrow) (x : Spelled) (r : LineState) → target l x.word (string_length x.token) ≡ Some r → Follows l x.token r
 takes l x r h = follows l x.token r (ap (λ w. target l w (string_length x.token)) x.is ∙ h)
 
-by_token : {q r : State} (x : Spelled) → target (choices q).arrows x.word (string_length x.token) ≡ Some r → Completion r → Completion q
+by_token : {q r : LineState} (x : Spelled) → target (choices q).arrows x.word (string_length x.token) ≡ Some r → Completion r → Completion q
 by_token {q = q} {r = r} x h y = record { row = piece_in q x.token ∷ y.row; tokens = x.token ∷ y.tokens; is = token (takes (choices q).arrows x r h) y.is }
 
 abbrev zero_token : LineToken
@@ -177,7 +177,7 @@ abbrev takes_value : Option Phrase → Bool
 takes_value None = false
 takes_value (Some h) = is_value h.setting
 
-by_phrase : {q r : State} (x : Spelled) → IsTrue (takes_value (choices q).phrase) → target (behind_in (choices q).phrase) x.word (string_length x.token) ≡ Some r → Completion r → Completion q
+by_phrase : {q r : LineState} (x : Spelled) → IsTrue (takes_value (choices q).phrase) → target (behind_in (choices q).phrase) x.word (string_length x.token) ≡ Some r → Completion r → Completion q
 by_phrase {q = q} {r = r} x some h y = go (choices q).phrase refl some h
   where
     go : (o : Option Phrase) → (choices q).phrase ≡ o → IsTrue (takes_value o) → target (behind_in o) x.word (string_length x.token) ≡ Some r → Completion q
@@ -268,7 +268,7 @@ from_more_parameters = by_token right_parenthesis refl from_parameters
 from_call_label : Completion state.CallLabel
 from_call_label = by_token name refl from_effects
 
-completed : (q : State) → Completion q
+completed : (q : LineState) → Completion q
 completed state.End = from_end
 completed state.LineEnd = from_line_end
 completed state.ConHead = by_token line_end refl from_end
@@ -339,7 +339,7 @@ completed state.CaseTest = by_phrase colon refl refl from_end
 completed state.CaseRange = by_phrase colon refl refl from_end
 completed state.OtherColon = by_token colon refl from_end
 
-pub completion : (q : State) → (row : List Piece) × (ts : List LineToken) × Row q row ts
+pub completion : (q : LineState) → (row : List Piece) × (ts : List LineToken) × Row q row ts
 completion q = let x = completed q in (x.row, x.tokens, x.is)
 
 -- what may stand after an expression
@@ -369,7 +369,7 @@ can_follow [] = false
 can_follow (a ∷ others) = is_on a (token_on a.sign)
 
 abbrev Follower : List Arrow → Type 0
-Follower l = (t : LineToken) × (r : State) × Follows l t r
+Follower l = (t : LineToken) × (r : LineState) × Follows l t r
 
 followed : (l : List Arrow) → IsTrue (can_follow l) → Follower l
 followed [] h = absurd cc
@@ -383,11 +383,11 @@ abbrev both_follow : Option Phrase → Bool
 both_follow None = true
 both_follow (Some h) = if can_follow h.behind_name then can_follow h.behind_other else false
 
-states_followed : (q : State) → IsTrue (both_follow (choices q).phrase)
+states_followed : (q : LineState) → IsTrue (both_follow (choices q).phrase)
 states_followed state.End = refl
 states_followed q = refl
 
-pub follower : (q : State) (h : Phrase) → (choices q).phrase ≡ Some h → (us : List LineToken) → (t : LineToken) × (r : State) × Follows (behind h us) t r
+pub follower : (q : LineState) (h : Phrase) → (choices q).phrase ≡ Some h → (us : List LineToken) → (t : LineToken) × (r : LineState) × Follows (behind h us) t r
 follower q h e us = go (can_follow h.behind_name) refl (is_name us) (subst (λ o. IsTrue (both_follow o)) e (states_followed q))
   where
     go : (b : Bool) → can_follow h.behind_name ≡ b → (n : Bool) → IsTrue (if b then can_follow h.behind_other else false) → Follower (if n then h.behind_name else h.behind_other)

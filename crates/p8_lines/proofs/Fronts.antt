@@ -8,7 +8,7 @@ use Rattle.p8_lexer.specs.declared.word.Word.{Word}
 use Rattle.p8_lexer.specs.declared.word.Word.TheVariants as word
 use Rattle.p8_grammar.specs.Lexemes.{Setting, in_method, in_declaration, in_dat, in_data_item, in_action, is_value, Lexeme, left_bracket, right_bracket, right_parenthesis, comma, colon, dot_dot, hash, string, mark, size, other, Token, token}
 use Rattle.p8_grammar.specs.Grammar.{IsExpression, IsFront}
-use Rattle.p8_grammar.specs.Machine.{Shape, Next, if_value, fresh, using, string_read, strings_read, choices_read, tree, whole_in, on_bracket, on_close, on_colon, on_comma, Frame, wrap, reduce, State, state, joined, shut, go_on, beyond, step, walk, all_of, accepted, accept, start, target, join}
+use Rattle.p8_grammar.specs.Machine.{Shape, Next, if_value, fresh, using, string_read, strings_read, choices_read, tree, whole_in, on_bracket, on_close, on_colon, on_comma, Frame, wrap, reduce, State, state, joined, fill_hole, go_on, beyond, step, walk, all_of, accepted, accept, start, target, join}
 use Rattle.p8_grammar.proofs.Walks.{walk_append, wraps}
 use Rattle.p8_grammar.proofs.FormsRead.{whole_tree}
 use Rattle.p8_grammar.proofs.Complete.{complete, past_label}
@@ -17,8 +17,8 @@ use Rattle.p8_grammar.proofs.Live.{dead}
 use Rattle.p8_lines.specs.declared.sign.Sign.{Sign}
 use Rattle.p8_lines.specs.declared.sign.Sign.TheVariants as sign
 use Rattle.p8_lines.specs.declared.arrow.Arrow.{Arrow}
-use Rattle.p8_lines.specs.declared.state.State as line_state
-use Rattle.p8_lines.specs.declared.state.State.TheVariants as states
+use Rattle.p8_lines.specs.declared.state.LineState as line_state
+use Rattle.p8_lines.specs.declared.state.LineState.TheVariants as states
 use Rattle.p8_lines.specs.Signs.{Matches}
 use Rattle.p8_lines.specs.Diagram.{Phrase, choices}
 use Rattle.p8_lines.specs.Tokens as tokens
@@ -63,7 +63,7 @@ abbrev good_before : Option Phrase → List Arrow → Bool
 good_before None l = true
 good_before (Some h) l = all_good (λ a. opens_nothing h.setting a.sign) l
 
-states_before : (q : line_state.State) → IsTrue (good_before (choices q).phrase (choices q).arrows)
+states_before : (q : line_state.LineState) → IsTrue (good_before (choices q).phrase (choices q).arrows)
 states_before states.End = refl
 states_before q = refl
 
@@ -118,7 +118,7 @@ sign_fails s t sign.LongText m h = ap (first_step s t) (string_lexeme t m.0) ∙
 sign_fails s t x m h = absurd cc
 
 -- a token that has an arrow begins no expression there
-pub before_fails : (q : line_state.State) (h : Phrase) (t : LineToken) (r : line_state.State) → (choices q).phrase ≡ Some h → Follows (choices q).arrows t r → ¬ IsFront h.setting (term t ∷ [])
+pub before_fails : (q : line_state.LineState) (h : Phrase) (t : LineToken) (r : line_state.LineState) → (choices q).phrase ≡ Some h → Follows (choices q).arrows t r → ¬ IsFront h.setting (term t ∷ [])
 before_fails q h t r e f =
     let good : IsTrue (all_good (λ a. opens_nothing h.setting a.sign) (choices q).arrows) = subst (λ o. IsTrue (good_before o (choices q).arrows)) e (states_before q) in
     let x = taken (λ a. opens_nothing h.setting a.sign) f good in
@@ -154,7 +154,7 @@ abbrev good_behind : Option Phrase → Bool
 good_behind None = true
 good_behind (Some h) = all_good_behind (λ a. ends_in h.setting a.sign) h
 
-states_behind : (q : line_state.State) → IsTrue (good_behind (choices q).phrase)
+states_behind : (q : line_state.LineState) → IsTrue (good_behind (choices q).phrase)
 states_behind states.End = refl
 states_behind q = refl
 
@@ -200,12 +200,12 @@ no_step s sh k top e p x h r (by_other (the_reserved n)) = past_label s sh k p n
     no_join : (v : Option Variable) → join s v None p top k ≡ None
     no_join None = refl
     no_join (Some v) = refl
-no_step s sh k top e p x h r by_comma = ap (λ o. go_on o s sh k p (mark comma)) (no_comma sh top h) ∙ ap (λ o. beyond o s sh k p (mark comma)) h ∙ ap (λ q. shut comma q.0 q.1) r
-no_step s sh k top e p x h r by_range = ap (λ o. beyond o s sh k p (mark dot_dot)) h ∙ ap (λ q. shut dot_dot q.0 q.1) r
-no_step s sh k top e p x h r by_right_bracket = ap (λ o. beyond o s sh k p (mark right_bracket)) h ∙ ap (λ q. shut right_bracket q.0 q.1) r
-no_step s sh k top e p x h r by_colon = ap (λ o. go_on o s sh k p (mark colon)) (no_colon s p sh top h) ∙ ap (λ o. beyond o s sh k p (mark colon)) h ∙ ap (λ q. shut colon q.0 q.1) r
-no_step s sh k top e p x h r by_right_parenthesis = ap (λ o. go_on o s sh k p (mark right_parenthesis)) (no_close sh top h) ∙ ap (λ o. beyond o s sh k p (mark right_parenthesis)) h ∙ ap (λ q. shut right_parenthesis q.0 q.1) r
-no_step s sh k top e p x h r (by_left_bracket i) = ap (λ o. go_on o s sh k p (mark left_bracket)) (no_index s sh i) ∙ ap (λ o. beyond o s sh k p (mark left_bracket)) h ∙ ap (λ q. shut left_bracket q.0 q.1) r
+no_step s sh k top e p x h r by_comma = ap (λ o. go_on o s sh k p (mark comma)) (no_comma sh top h) ∙ ap (λ o. beyond o s sh k p (mark comma)) h ∙ ap (λ q. fill_hole comma q.0 q.1) r
+no_step s sh k top e p x h r by_range = ap (λ o. beyond o s sh k p (mark dot_dot)) h ∙ ap (λ q. fill_hole dot_dot q.0 q.1) r
+no_step s sh k top e p x h r by_right_bracket = ap (λ o. beyond o s sh k p (mark right_bracket)) h ∙ ap (λ q. fill_hole right_bracket q.0 q.1) r
+no_step s sh k top e p x h r by_colon = ap (λ o. go_on o s sh k p (mark colon)) (no_colon s p sh top h) ∙ ap (λ o. beyond o s sh k p (mark colon)) h ∙ ap (λ q. fill_hole colon q.0 q.1) r
+no_step s sh k top e p x h r by_right_parenthesis = ap (λ o. go_on o s sh k p (mark right_parenthesis)) (no_close sh top h) ∙ ap (λ o. beyond o s sh k p (mark right_parenthesis)) h ∙ ap (λ q. fill_hole right_parenthesis q.0 q.1) r
+no_step s sh k top e p x h r (by_left_bracket i) = ap (λ o. go_on o s sh k p (mark left_bracket)) (no_index s sh i) ∙ ap (λ o. beyond o s sh k p (mark left_bracket)) h ∙ ap (λ q. fill_hole left_bracket q.0 q.1) r
 
 record Whole (s : Setting) (st : State) (e : Tree) : Type 0 where
   setting : Setting
@@ -292,7 +292,7 @@ sign_ends s t sign.Write m h = by_other (write_lexeme t m)
 sign_ends s t x m h = absurd cc
 
 -- a token that may stand after an expression does not go on with it
-pub behind_fails : (q : line_state.State) (h : Phrase) (e : Tree) (us : List LineToken) (t : LineToken) (r : line_state.State) → (choices q).phrase ≡ Some h → IsExpression h.setting e (terms us) → Follows (behind h us) t r → ¬ IsFront h.setting (terms us ++ term t ∷ [])
+pub behind_fails : (q : line_state.LineState) (h : Phrase) (e : Tree) (us : List LineToken) (t : LineToken) (r : line_state.LineState) → (choices q).phrase ≡ Some h → IsExpression h.setting e (terms us) → Follows (behind h us) t r → ¬ IsFront h.setting (terms us ++ term t ∷ [])
 behind_fails q h e us t r is x f =
     let y = taken_behind (λ a. ends_in h.setting a.sign) h us f (subst (λ o. IsTrue (good_behind o)) is (states_behind q)) in
     expression_ends h.setting e (terms us) t.place (lexeme t) x (sign_ends h.setting t y.arrow.sign y.is y.good)

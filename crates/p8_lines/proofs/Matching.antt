@@ -9,7 +9,7 @@ use Rattle.p8_lexer.specs.declared.word.Word.TheVariants as word
 use Rattle.p8_lines.specs.declared.sign.Sign.{Sign}
 use Rattle.p8_lines.specs.declared.sign.Sign.TheVariants as sign
 use Rattle.p8_lines.specs.declared.arrow.Arrow.{Arrow}
-use Rattle.p8_lines.specs.declared.state.State.{State}
+use Rattle.p8_lines.specs.declared.state.LineState.{LineState}
 use Rattle.p8_lines.specs.Signs.{is_size, is_condition, takes_two, is_on_memory, takes_one, is_flag, is_write, is_label, Matches}
 use Rattle.p8_lines.specs.Tokens as tokens
 use Rattle.p8_lines.specs.Tokens.{LineToken, string_length}
@@ -79,11 +79,11 @@ does_not_match sign.Write v n h m = differs (is_write v) h m
 does_not_match sign.Label v n h m = differs (is_label v) h m
 
 -- where a token with this word, and with so many characters between its quotes, leads
-abbrev pub target : List Arrow → Word → ℕ → Option State
+abbrev pub target : List Arrow → Word → ℕ → Option LineState
 target [] v n = None
 target (a ∷ others) v n = if matches a.sign v n then Some a.to else target others v n
 
-pub follows : (l : List Arrow) (t : LineToken) (r : State) → target l (tokens.word t) (string_length t) ≡ Some r → Follows l t r
+pub follows : (l : List Arrow) (t : LineToken) (r : LineState) → target l (tokens.word t) (string_length t) ≡ Some r → Follows l t r
 follows [] t r h = absurd cc
 follows (a ∷ others) t r h = go (matches a.sign (tokens.word t) (string_length t)) refl h (follows others t r)
   where

@@ -5,8 +5,8 @@ use Rattle.p8_lexer.specs.Pieces.{Piece}
 use Rattle.p8_tree.specs.declared.refusal.Refusal.TheVariants.{TooNested}
 use Rattle.p8_tree.specs.Refusals.{refusal_number}
 use Rattle.p8_expr.specs.Refusals.{refusal_of}
-use Rattle.p8_lines.specs.declared.state.State.{State}
-use Rattle.p8_lines.specs.declared.state.State.TheVariants as state
+use Rattle.p8_lines.specs.declared.state.LineState.{LineState}
+use Rattle.p8_lines.specs.declared.state.LineState.TheVariants as state
 use Rattle.p8_lexer.specs.declared.word.Word.TheVariants as word
 use Rattle.p8_lines.specs.declared.arrow.Arrow.{Arrow}
 use Rattle.p8_lines.specs.Diagram.{Phrase, ◌⇒◌, choices, setting_at}
@@ -30,10 +30,10 @@ nothing_more us vs ws e = go vs ws (cancel us [] (vs ++ ws) (append-nil us ∙ e
 
 -- One line, and none that is too high.
 
-pub leads_row : {q : State} {us : List LineToken} {row : List Piece} → Leads q us row state.End → Row q row us
+pub leads_row : {q : LineState} {us : List LineToken} {row : List Piece} → Leads q us row state.End → Row q row us
 leads_row {q = q} {us = us} {row = row} x = subst (λ l. Row q row l) (append-nil us) (subst (λ r. Row q r (us ++ [])) (append-nil row) (way_row (leads_way x) over))
 
-line_line : {q : State} {us us' : List LineToken} {row row' : List Piece} (rest rest' : List LineToken) → Leads q us row state.End → Leads q us' row' state.End → us ++ rest ≡ us' ++ rest' → read row rest ≡ read row' rest'
+line_line : {q : LineState} {us us' : List LineToken} {row row' : List Piece} (rest rest' : List LineToken) → Leads q us row state.End → Leads q us' row' state.End → us ++ rest ≡ us' ++ rest' → read row rest ≡ read row' rest'
 line_line {us = us} {us' = us'} {row = row} {row' = row'} rest rest' x y split = go (compare us rest us' rest' split)
   where
     go : Compared us rest us' rest' → read row rest ≡ read row' rest'
@@ -45,13 +45,13 @@ line_line {us = us} {us' = us'} {row = row} {row' = row'} rest rest' x y split =
     go (beyond u vs a b) = let z = goes_on (u ∷ vs) (leads_way y) (leads_way x) a in let e = at_end z.way refl in let f = e.tokens in absurd cc
     go (short u vs a b) = let z = goes_on (u ∷ vs) (leads_way x) (leads_way y) a in let e = at_end z.way refl in let f = e.tokens in absurd cc
 
-line_high : {q r : State} {us us' : List LineToken} {row row' : List Piece} (h : Phrase) (rest ws : List LineToken) → Leads q us row state.End → Leads q us' row' r → (choices r).phrase ≡ Some h → IsTooHigh h ws → us ++ rest ≡ us' ++ ws → ⊥
+line_high : {q r : LineState} {us us' : List LineToken} {row row' : List Piece} (h : Phrase) (rest ws : List LineToken) → Leads q us row state.End → Leads q us' row' r → (choices r).phrase ≡ Some h → IsTooHigh h ws → us ++ rest ≡ us' ++ ws → ⊥
 line_high {r = r} h rest ws x y p high split =
     let b = blocked h rest ws x y p high split in
     let z = goes_on b.0 (leads_way x) (leads_way y) b.1 in
     none_there h r (at_end z.way refl).ends p
 
-line_stopped : {q : State} {us : List LineToken} {row : List Piece} (us' rest vs : List LineToken) (t : LineToken) → Leads q us row state.End → us ++ rest ≡ us' ++ t ∷ vs → Begins q us' → ((row : List Piece) → ¬ Row q row us') → ¬ Begins q (us' ++ t ∷ []) → ⊥
+line_stopped : {q : LineState} {us : List LineToken} {row : List Piece} (us' rest vs : List LineToken) (t : LineToken) → Leads q us row state.End → us ++ rest ≡ us' ++ t ∷ vs → Begins q us' → ((row : List Piece) → ¬ Row q row us') → ¬ Begins q (us' ++ t ∷ []) → ⊥
 line_stopped {q = q} {us = us} {row = row} us' rest vs t x split begins no_line ends = go (compare us rest us' (t ∷ vs) split)
   where
     go : Compared us rest us' (t ∷ vs) → ⊥
@@ -64,7 +64,7 @@ line_stopped {q = q} {us = us} {row = row} us' rest vs t x split begins no_line 
         let f = (at_end z.way refl).tokens in
         absurd cc
 
-high_high : {q r r' : State} {us us' : List LineToken} {row row' : List Piece} (h h' : Phrase) (t t' : LineToken) (vs vs' : List LineToken) → Leads q us row r → (choices r).phrase ≡ Some h → IsTooHigh h (t ∷ vs) → Leads q us' row' r' → (choices r').phrase ≡ Some h' → IsTooHigh h' (t' ∷ vs') → us ++ t ∷ vs ≡ us' ++ t' ∷ vs' → t ≡ t'
+high_high : {q r r' : LineState} {us us' : List LineToken} {row row' : List Piece} (h h' : Phrase) (t t' : LineToken) (vs vs' : List LineToken) → Leads q us row r → (choices r).phrase ≡ Some h → IsTooHigh h (t ∷ vs) → Leads q us' row' r' → (choices r').phrase ≡ Some h' → IsTooHigh h' (t' ∷ vs') → us ++ t ∷ vs ≡ us' ++ t' ∷ vs' → t ≡ t'
 high_high {r = r} {r' = r'} {us = us} {us' = us'} h h' t t' vs vs' x p high x' p' high' split =
     let b = blocked h' (t ∷ vs) (t' ∷ vs') x x' p' high' split in
     let b' = blocked h (t' ∷ vs') (t ∷ vs) x' x p high (sym split) in
@@ -73,7 +73,7 @@ high_high {r = r} {r' = r'} {us = us} {us' = us'} h h' t t' vs vs' x p high x' p
     let lasts : t ∷ vs ≡ t' ∷ vs' = cancel us (t ∷ vs) (t' ∷ vs') (split ∙ ap (λ l. l ++ t' ∷ vs') tokens) in
     cc
 
-high_stopped : {q r : State} {us : List LineToken} {row : List Piece} (h : Phrase) (us' vs vs' : List LineToken) (t t' : LineToken) → Leads q us row r → (choices r).phrase ≡ Some h → IsTooHigh h (t ∷ vs) → us ++ t ∷ vs ≡ us' ++ t' ∷ vs' → ¬ Begins q (us' ++ t' ∷ []) → ¬ HasTooHigh q us' → ⊥
+high_stopped : {q r : LineState} {us : List LineToken} {row : List Piece} (h : Phrase) (us' vs vs' : List LineToken) (t t' : LineToken) → Leads q us row r → (choices r).phrase ≡ Some h → IsTooHigh h (t ∷ vs) → us ++ t ∷ vs ≡ us' ++ t' ∷ vs' → ¬ Begins q (us' ++ t' ∷ []) → ¬ HasTooHigh q us' → ⊥
 high_stopped {q = q} {r = r} {us = us} {row = row} h us' vs vs' t t' x p high split ends low = go (compare us' (t' ∷ vs') (us ++ high.front) high.rest whole)
   where
     whole : us' ++ t' ∷ vs' ≡ (us ++ high.front) ++ high.rest
@@ -89,7 +89,7 @@ high_stopped {q = q} {r = r} {us = us} {row = row} h us' vs vs' t t' x p high sp
         let firsts : u ≡ t' = cc in
         ends (subst (λ w. Begins q (us' ++ w ∷ [])) firsts (begun_with us' u ws (subst (Begins q) a (way_begins high.front (leads_way x) (front_begins r h high.front p high.begins)))))
 
-stopped_stopped : (q : State) (us us' vs vs' : List LineToken) (t t' : LineToken) → us ++ t ∷ vs ≡ us' ++ t' ∷ vs' → Begins q us → ¬ Begins q (us ++ t ∷ []) → Begins q us' → ¬ Begins q (us' ++ t' ∷ []) → t ≡ t'
+stopped_stopped : (q : LineState) (us us' vs vs' : List LineToken) (t t' : LineToken) → us ++ t ∷ vs ≡ us' ++ t' ∷ vs' → Begins q us → ¬ Begins q (us ++ t ∷ []) → Begins q us' → ¬ Begins q (us' ++ t' ∷ []) → t ≡ t'
 stopped_stopped q us us' vs vs' t t' split begins ends begins' ends' = go (compare us (t ∷ vs) us' (t' ∷ vs') split)
   where
     go : Compared us (t ∷ vs) us' (t' ∷ vs') → t ≡ t'
@@ -97,7 +97,7 @@ stopped_stopped q us us' vs vs' t t' split begins ends begins' ends' = go (compa
     go (beyond u ws a b) = let firsts : u ≡ t' = cc in absurd (ends' (subst (λ w. Begins q (us' ++ w ∷ [])) firsts (begun_with us' u ws (subst (Begins q) a begins))))
     go (short u ws a b) = let firsts : u ≡ t = cc in absurd (ends (subst (λ w. Begins q (us ++ w ∷ [])) firsts (begun_with us u ws (subst (Begins q) a begins'))))
 
-pub one_reading : (q : State) (ts : List LineToken) (o o' : Outcome) → Reads q ts o → Reads q ts o' → o ≡ o'
+pub one_reading : (q : LineState) (ts : List LineToken) (o o' : Outcome) → Reads q ts o → Reads q ts o' → o ≡ o'
 one_reading q ts _ _ (line {rest = rest} e x) (line {rest = rest'} e' x') = line_line rest rest' x x' (sym e ∙ e')
 one_reading q ts _ _ (line {rest = rest} e x) (too_high {vs = vs} {t = t} {h = h} e' x' p high) = absurd (line_high h rest (t ∷ vs) x x' p high (sym e ∙ e'))
 one_reading q ts _ _ (line {rest = rest} e x) (stopped {us = us} t vs e' begins no_line ends low) = absurd (line_stopped us rest vs t x (sym e ∙ e') begins no_line ends)
@@ -113,28 +113,28 @@ one_reading q ts _ _ (stopped {us = us} t vs e begins no_line ends low) (stopped
 
 -- The setting along a way.
 
-step_keeps : {low : Bool} {q r : State} {us : List LineToken} {row : List Piece} → Step low q us row r → (r ≡ state.End) ⊎ ((r ≡ state.LineEnd) ⊎ (setting_at r ≡ setting_at q))
+step_keeps : {low : Bool} {q r : LineState} {us : List LineToken} {row : List Piece} → Step low q us row r → (r ≡ state.End) ⊎ ((r ≡ state.LineEnd) ⊎ (setting_at r ≡ setting_at q))
 step_keeps (token {q = q} {r = r} {t = t} f) = keeps_setting q r t f
 step_keeps (phrase {q = q} {r = r} {h = h} {first = first} {t = t} others p x l f) = keeps_setting_behind q r h (first ∷ others) t p f
 
 -- the end of a line leads to nothing else
-end_leads : (arrows : List Arrow) {t : LineToken} {q : State} → Follows arrows t q → arrows ≡ word.LineEnd ⇒ state.End ∷ [] → q ≡ state.End
+end_leads : (arrows : List Arrow) {t : LineToken} {q : LineState} → Follows arrows t q → arrows ≡ word.LineEnd ⇒ state.End ∷ [] → q ≡ state.End
 end_leads arrows (here {a = a} x) e = let z : a ≡ word.LineEnd ⇒ state.End = cc in ap (λ a. a.to) z
 end_leads arrows (further {others = others} x f) e = let z : others ≡ [] = cc in absurd (nothing_follows others f z)
   where
-    nothing_follows : (arrows : List Arrow) {t : LineToken} {q : State} → Follows arrows t q → arrows ≡ [] → ⊥
+    nothing_follows : (arrows : List Arrow) {t : LineToken} {q : LineState} → Follows arrows t q → arrows ≡ [] → ⊥
     nothing_follows arrows (here x) e = absurd cc
     nothing_follows arrows (further x f) e = absurd cc
 
-line_end_step : {low : Bool} {q r : State} {us : List LineToken} {row : List Piece} → Step low q us row r → q ≡ state.LineEnd → r ≡ state.End
+line_end_step : {low : Bool} {q r : LineState} {us : List LineToken} {row : List Piece} → Step low q us row r → q ≡ state.LineEnd → r ≡ state.End
 line_end_step (token {q = q} f) e = end_leads (choices q).arrows f (ap (λ q. (choices q).arrows) e)
 line_end_step (phrase {q = q} {h = h} others p x l f) e = let z : (choices state.LineEnd).phrase ≡ Some h = subst (λ q. (choices q).phrase ≡ Some h) e p in absurd cc
 
-line_end_way : {low : Bool} {q r : State} {us : List LineToken} {row : List Piece} → Way low q us row r → q ≡ state.LineEnd → (r ≡ state.End) ⊎ (r ≡ state.LineEnd)
+line_end_way : {low : Bool} {q r : LineState} {us : List LineToken} {row : List Piece} → Way low q us row r → q ≡ state.LineEnd → (r ≡ state.End) ⊎ (r ≡ state.LineEnd)
 line_end_way none e = inr e
 line_end_way (more x w) e = inl (at_end w (line_end_step x e)).ends
 
-way_keeps : {low : Bool} {q r : State} {us : List LineToken} {row : List Piece} → Way low q us row r → (r ≡ state.End) ⊎ ((r ≡ state.LineEnd) ⊎ (setting_at r ≡ setting_at q))
+way_keeps : {low : Bool} {q r : LineState} {us : List LineToken} {row : List Piece} → Way low q us row r → (r ≡ state.End) ⊎ ((r ≡ state.LineEnd) ⊎ (setting_at r ≡ setting_at q))
 way_keeps none = inr (inr refl)
 way_keeps {q = q} {r = r} (more {r = m} x w) = go (λ e. (at_end w e).ends) (line_end_way w) (way_keeps w) (step_keeps x)
   where
@@ -153,7 +153,7 @@ way_keeps {q = q} {r = r} (more {r = m} x w) = go (λ e. (at_end w e).ends) (lin
     go ends line_end rest (inr (inr e)) = kept e rest
 
 -- so the words that are refused by themselves stay the same
-pub leads_fits : {q r : State} {us : List LineToken} {row : List Piece} → Leads q us row r → FitsSetting (setting_at q) r
+pub leads_fits : {q r : LineState} {us : List LineToken} {row : List Piece} → Leads q us row r → FitsSetting (setting_at q) r
 leads_fits {q = q} {r = r} x h p w = go (way_keeps (leads_way x))
   where
     go : (r ≡ state.End) ⊎ ((r ≡ state.LineEnd) ⊎ (setting_at r ≡ setting_at q)) → refusal_of h.setting w ≡ refusal_of (setting_at q) w
@@ -163,10 +163,10 @@ leads_fits {q = q} {r = r} x h p w = go (way_keeps (leads_way x))
 
 -- Where reading stops in the midst of a line, it does so from the line's begin.
 
-pub reads_line : {q : State} {ts us rest : List LineToken} {row : List Piece} → ts ≡ us ++ rest → Leads q us row state.End → Reads q ts (read row rest)
+pub reads_line : {q : LineState} {ts us rest : List LineToken} {row : List Piece} → ts ≡ us ++ rest → Leads q us row state.End → Reads q ts (read row rest)
 reads_line e x = line e x
 
-pub reads_stop : {q r : State} {us ws : List LineToken} {row : List Piece} {n : ℕ} {p : Place} (ts : List LineToken) → ts ≡ us ++ ws → Leads q us row r → Stops (setting_at q) r ws n p → Reads q ts (refused n p)
+pub reads_stop : {q r : LineState} {us ws : List LineToken} {row : List Piece} {n : ℕ} {p : Place} (ts : List LineToken) → ts ≡ us ++ ws → Leads q us row r → Stops (setting_at q) r ws n p → Reads q ts (refused n p)
 reads_stop {us = us} ts e x (stopping.too_high {t = t} {vs = vs} g p high) = too_high (e ∙ ap (λ l. us ++ l) g) x p high
 reads_stop {q = q} {r = r} {us = us} {row = row} ts e x (stopping.stopped {us = us'} t vs g begins no_line ends low) =
     stopped t vs (e ∙ ap (λ l. us ++ l) g ∙ sym (append_assoc us us' (t ∷ vs))) (way_begins us' (leads_way x) begins) line_there begins_there high_there

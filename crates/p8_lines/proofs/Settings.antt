@@ -8,8 +8,8 @@ use Rattle.p8_expr.specs.Refusals.{refusal_of}
 use Rattle.p8_lines.specs.declared.sign.Sign.{Sign}
 use Rattle.p8_lines.specs.declared.sign.Sign.TheVariants as sign
 use Rattle.p8_lines.specs.declared.arrow.Arrow.{Arrow}
-use Rattle.p8_lines.specs.declared.state.State.{State}
-use Rattle.p8_lines.specs.declared.state.State.TheVariants as state
+use Rattle.p8_lines.specs.declared.state.LineState.{LineState}
+use Rattle.p8_lines.specs.declared.state.LineState.TheVariants as state
 use Rattle.p8_lines.specs.Signs.{Matches, is_flag, is_write}
 use Rattle.p8_lines.specs.Diagram.{Phrase, choices, setting_at}
 use Rattle.p8_lines.specs.Tokens as tokens
@@ -49,11 +49,11 @@ abbrev phrase_fits : Option Phrase → Setting → Bool
 phrase_fits None s = true
 phrase_fits (Some h) s = fits h.setting s
 
-states_fit : (q : State) → IsTrue (phrase_fits (choices q).phrase (setting_at q))
+states_fit : (q : LineState) → IsTrue (phrase_fits (choices q).phrase (setting_at q))
 states_fit state.End = refl
 states_fit q = refl
 
-pub setting_fits : (q : State) (h : Phrase) (w : Word) → (choices q).phrase ≡ Some h → refusal_of h.setting w ≡ refusal_of (setting_at q) w
+pub setting_fits : (q : LineState) (h : Phrase) (w : Word) → (choices q).phrase ≡ Some h → refusal_of h.setting w ≡ refusal_of (setting_at q) w
 setting_fits q h w e = fitting h.setting (setting_at q) w (subst (λ o. IsTrue (phrase_fits o (setting_at q))) e (states_fit q))
 
 -- the setting of the next state
@@ -72,7 +72,7 @@ same_if in_dat in_dat h = refl
 same_if in_data_item in_data_item h = refl
 same_if s s' h = absurd cc
 
-abbrev keeps_to : Setting → State → Bool
+abbrev keeps_to : Setting → LineState → Bool
 keeps_to s state.End = true
 keeps_to s state.LineEnd = true
 keeps_to s q = is_same (setting_at q) s
@@ -80,16 +80,16 @@ keeps_to s q = is_same (setting_at q) s
 abbrev keeps : Setting → Arrow → Bool
 keeps s a = keeps_to s a.to
 
-kept_to : (s : Setting) (r : State) → IsTrue (keeps_to s r) → (r ≡ state.End) ⊎ ((r ≡ state.LineEnd) ⊎ (setting_at r ≡ s))
+kept_to : (s : Setting) (r : LineState) → IsTrue (keeps_to s r) → (r ≡ state.End) ⊎ ((r ≡ state.LineEnd) ⊎ (setting_at r ≡ s))
 kept_to s state.End h = inl refl
 kept_to s state.LineEnd h = inr (inl refl)
 kept_to s r h = inr (inr (same_if (setting_at r) s h))
 
-states_keep : (q : State) → IsTrue (all_good (keeps (setting_at q)) (choices q).arrows)
+states_keep : (q : LineState) → IsTrue (all_good (keeps (setting_at q)) (choices q).arrows)
 states_keep state.End = refl
 states_keep q = refl
 
-pub keeps_setting : (q r : State) (t : LineToken) → Follows (choices q).arrows t r → (r ≡ state.End) ⊎ ((r ≡ state.LineEnd) ⊎ (setting_at r ≡ setting_at q))
+pub keeps_setting : (q r : LineState) (t : LineToken) → Follows (choices q).arrows t r → (r ≡ state.End) ⊎ ((r ≡ state.LineEnd) ⊎ (setting_at r ≡ setting_at q))
 keeps_setting q r t f =
     let x = taken (keeps (setting_at q)) f (states_keep q) in
     kept_to (setting_at q) r (subst (λ r. IsTrue (keeps_to (setting_at q) r)) x.goes x.good)
@@ -98,11 +98,11 @@ abbrev phrase_keeps : Option Phrase → Setting → Bool
 phrase_keeps None s = true
 phrase_keeps (Some h) s = all_good_behind (keeps s) h
 
-phrases_keep : (q : State) → IsTrue (phrase_keeps (choices q).phrase (setting_at q))
+phrases_keep : (q : LineState) → IsTrue (phrase_keeps (choices q).phrase (setting_at q))
 phrases_keep state.End = refl
 phrases_keep q = refl
 
-pub keeps_setting_behind : (q r : State) (h : Phrase) (us : List LineToken) (t : LineToken) → (choices q).phrase ≡ Some h → Follows (behind h us) t r → (r ≡ state.End) ⊎ ((r ≡ state.LineEnd) ⊎ (setting_at r ≡ setting_at q))
+pub keeps_setting_behind : (q r : LineState) (h : Phrase) (us : List LineToken) (t : LineToken) → (choices q).phrase ≡ Some h → Follows (behind h us) t r → (r ≡ state.End) ⊎ ((r ≡ state.LineEnd) ⊎ (setting_at r ≡ setting_at q))
 keeps_setting_behind q r h us t e f =
     let x = taken_behind (keeps (setting_at q)) h us f (subst (λ o. IsTrue (phrase_keeps o (setting_at q))) e (phrases_keep q)) in
     kept_to (setting_at q) r (subst (λ r. IsTrue (keeps_to (setting_at q) r)) x.goes x.good)
@@ -164,11 +164,11 @@ abbrev phrase_good : Option Phrase → Bool
 phrase_good None = true
 phrase_good (Some h) = all_good_behind (λ a. is_good a.sign) h
 
-phrases_good : (q : State) → IsTrue (phrase_good (choices q).phrase)
+phrases_good : (q : LineState) → IsTrue (phrase_good (choices q).phrase)
 phrases_good state.End = refl
 phrases_good q = refl
 
-pub behind_good : (q : State) (h : Phrase) (us : List LineToken) (t : LineToken) (r : State) (s : Setting) → (choices q).phrase ≡ Some h → Follows (behind h us) t r → refusal_of s (tokens.word t) ≡ None
+pub behind_good : (q : LineState) (h : Phrase) (us : List LineToken) (t : LineToken) (r : LineState) (s : Setting) → (choices q).phrase ≡ Some h → Follows (behind h us) t r → refusal_of s (tokens.word t) ≡ None
 behind_good q h us t r s e f =
     let x = taken_behind (λ a. is_good a.sign) h us f (subst (λ o. IsTrue (phrase_good o)) e (phrases_good q)) in
     sign_good s t x.arrow.sign x.is x.good

@@ -16,8 +16,8 @@ use Rattle.p8_expr.specs.Parsing.{tree, Parses, IsFault}
 use Rattle.p8_lexer.specs.Pieces as pieces
 use Rattle.p8_lexer.specs.Pieces.{Piece}
 use Rattle.p8_lines.specs.declared.arrow.Arrow.{Arrow}
-use Rattle.p8_lines.specs.declared.state.State.{State}
-use Rattle.p8_lines.specs.declared.state.State.TheVariants as state
+use Rattle.p8_lines.specs.declared.state.LineState.{LineState}
+use Rattle.p8_lines.specs.declared.state.LineState.TheVariants as state
 use Rattle.p8_lines.specs.Diagram.{Phrase, choices, setting_at}
 use Rattle.p8_lines.specs.Tokens as line_tokens
 use Rattle.p8_lines.specs.Tokens.{LineToken, piece, tokens_from}
@@ -29,7 +29,7 @@ use Rattle.p8_lines.proofs.Texts.{is_end}
 use Rattle.p8_lines.proofs.Stops.{run_within, spelled, within, arrow_goes, no_phrase_stops, end_stops, tree_goes, tree_stops, refused_stops}
 use Rattle.p8_lines.proofs.LineEnds.{line_end_over, line_end_behind}
 
-pub stops_as : (s : Setting) (q : State) (ts : List LineToken) (n m : ℕ) (p p' : Place) → Stops s q ts n p → m ≡ n → p' ≡ p → Stops s q ts m p'
+pub stops_as : (s : Setting) (q : LineState) (ts : List LineToken) (n m : ℕ) (p p' : Place) → Stops s q ts n p → m ≡ n → p' ≡ p → Stops s q ts m p'
 stops_as s q ts n m p p' x e f = subst (λ p. Stops s q ts m p) (sym f) (subst (λ n. Stops s q ts n p) (sym e) x)
 
 -- the expression at a state
@@ -47,21 +47,21 @@ phrase_some (Some h) k e = (h, refl, cc)
 pub parses_within : (s : Setting) (limit : ℕ) (bytes : List ℕ) (tokens : List lexer_token.Token) (at end : ℕ) (e : Tree) → at < length tokens → Parses s limit bytes tokens at (tree e end) → end ≤ length tokens
 parses_within s limit bytes tokens at end e lt x = run_within s limit bytes tokens at end e lt x
 
-pub tree_refused : (s : Setting) (bytes : List ℕ) (tokens : List lexer_token.Token) (at : ℕ) (q : State) (k : Setting) (fault : Fault) → at < length tokens → option_map (λ h. h.setting) (choices q).phrase ≡ Some k → FitsSetting s q → ((r : State) → ¬ Follows (choices q).arrows (token_at bytes tokens at) r) → IsFault k greatest_height bytes tokens at fault → Stops s q (tokens_from bytes tokens at) fault.number fault.place
+pub tree_refused : (s : Setting) (bytes : List ℕ) (tokens : List lexer_token.Token) (at : ℕ) (q : LineState) (k : Setting) (fault : Fault) → at < length tokens → option_map (λ h. h.setting) (choices q).phrase ≡ Some k → FitsSetting s q → ((r : LineState) → ¬ Follows (choices q).arrows (token_at bytes tokens at) r) → IsFault k greatest_height bytes tokens at fault → Stops s q (tokens_from bytes tokens at) fault.number fault.place
 tree_refused s bytes tokens at q k fault lt expects fits unfollowed x =
     let y = phrase_some (choices q).phrase k expects in
     refused_stops s bytes tokens at q y.0 fault lt y.1 fits unfollowed (subst (λ k. IsFault k greatest_height bytes tokens at fault) (sym y.2) x)
 
-pub none_stops : (s : Setting) (bytes : List ℕ) (tokens : List lexer_token.Token) (at : ℕ) (q : State) (n : ℕ) (p : Place) → at ≤ length tokens → q ≢ state.End → ((r : State) → ¬ Follows (choices q).arrows (token_at bytes tokens at) r) → None ≡ option_map (λ h. h.setting) (choices q).phrase → n ≡ number_of s (line_tokens.word (token_at bytes tokens at)) → p ≡ (token_at bytes tokens at).place → Stops s q (tokens_from bytes tokens at) n p
+pub none_stops : (s : Setting) (bytes : List ℕ) (tokens : List lexer_token.Token) (at : ℕ) (q : LineState) (n : ℕ) (p : Place) → at ≤ length tokens → q ≢ state.End → ((r : LineState) → ¬ Follows (choices q).arrows (token_at bytes tokens at) r) → None ≡ option_map (λ h. h.setting) (choices q).phrase → n ≡ number_of s (line_tokens.word (token_at bytes tokens at)) → p ≡ (token_at bytes tokens at).place → Stops s q (tokens_from bytes tokens at) n p
 none_stops s bytes tokens at q n p le open_ unfollowed e number place =
     stops_as s q (tokens_from bytes tokens at) (number_of s (line_tokens.word (token_at bytes tokens at))) n (token_at bytes tokens at).place p (no_phrase_stops s bytes tokens at q le open_ unfollowed (phrase_none (choices q).phrase e)) number place
 
-pub ended_stops : (s : Setting) (bytes : List ℕ) (tokens : List lexer_token.Token) (at : ℕ) (q : State) (k : Setting) (n : ℕ) (p : Place) → at ≡ length tokens → ((r : State) → ¬ Follows (choices q).arrows (token_at bytes tokens at) r) → option_map (λ h. h.setting) (choices q).phrase ≡ Some k → n ≡ number_of s (line_tokens.word (token_at bytes tokens at)) → p ≡ (token_at bytes tokens at).place → Stops s q (tokens_from bytes tokens at) n p
+pub ended_stops : (s : Setting) (bytes : List ℕ) (tokens : List lexer_token.Token) (at : ℕ) (q : LineState) (k : Setting) (n : ℕ) (p : Place) → at ≡ length tokens → ((r : LineState) → ¬ Follows (choices q).arrows (token_at bytes tokens at) r) → option_map (λ h. h.setting) (choices q).phrase ≡ Some k → n ≡ number_of s (line_tokens.word (token_at bytes tokens at)) → p ≡ (token_at bytes tokens at).place → Stops s q (tokens_from bytes tokens at) n p
 ended_stops s bytes tokens at q k n p here unfollowed expects number place =
     let y = phrase_some (choices q).phrase k expects in
     stops_as s q (tokens_from bytes tokens at) (number_of s (line_tokens.word (token_at bytes tokens at))) n (token_at bytes tokens at).place p (end_stops s bytes tokens at q y.0 here unfollowed y.1) number place
 
-pub stops_behind_tree : (s : Setting) (bytes : List ℕ) (tokens : List lexer_token.Token) (at end : ℕ) (q : State) (k : Setting) (e : Tree) (arrows : List Arrow) (n : ℕ) (p : Place) → at < length tokens → option_map (λ h. h.setting) (choices q).phrase ≡ Some k → ((h : Phrase) → (choices q).phrase ≡ Some h → Parses h.setting greatest_height bytes tokens at (tree e end)) → ((r : State) → ¬ Follows (choices q).arrows (token_at bytes tokens at) r) → ((h : Phrase) → (choices q).phrase ≡ Some h → arrows ≡ behind h (run bytes tokens at (end - at))) → ((r : State) → ¬ Follows arrows (token_at bytes tokens end) r) → n ≡ number_of s (line_tokens.word (token_at bytes tokens end)) → p ≡ (token_at bytes tokens end).place → Stops s q (tokens_from bytes tokens at) n p
+pub stops_behind_tree : (s : Setting) (bytes : List ℕ) (tokens : List lexer_token.Token) (at end : ℕ) (q : LineState) (k : Setting) (e : Tree) (arrows : List Arrow) (n : ℕ) (p : Place) → at < length tokens → option_map (λ h. h.setting) (choices q).phrase ≡ Some k → ((h : Phrase) → (choices q).phrase ≡ Some h → Parses h.setting greatest_height bytes tokens at (tree e end)) → ((r : LineState) → ¬ Follows (choices q).arrows (token_at bytes tokens at) r) → ((h : Phrase) → (choices q).phrase ≡ Some h → arrows ≡ behind h (run bytes tokens at (end - at))) → ((r : LineState) → ¬ Follows arrows (token_at bytes tokens end) r) → n ≡ number_of s (line_tokens.word (token_at bytes tokens end)) → p ≡ (token_at bytes tokens end).place → Stops s q (tokens_from bytes tokens at) n p
 stops_behind_tree s bytes tokens at end q k e arrows n p lt expects parses unfollowed arrows_are no_arrow number place =
     let y = phrase_some (choices q).phrase k expects in
     let h = y.0 in
@@ -74,7 +74,7 @@ stops_behind_tree s bytes tokens at end q k e arrows n p lt expects parses unfol
 end_word : (bytes : List ℕ) (tokens : List lexer_token.Token) (at : ℕ) → length tokens < at + 1 → line_tokens.word (token_at bytes tokens at) ≡ word.LineEnd
 end_word bytes tokens at lt = ap line_tokens.word (is_end bytes tokens at (slice_get_past tokens at (omega (arith, lt))))
 
-pub arrow_step : (bytes : List ℕ) (tokens : List lexer_token.Token) (at m : ℕ) (q r : State) (old new : List Piece) → at ≤ length tokens → Follows (choices q).arrows (token_at bytes tokens at) r → new ≡ old ++ piece_in q (token_at bytes tokens at) ∷ [] → m ≡ at + 1 → Advances bytes tokens at m q old new r
+pub arrow_step : (bytes : List ℕ) (tokens : List lexer_token.Token) (at m : ℕ) (q r : LineState) (old new : List Piece) → at ≤ length tokens → Follows (choices q).arrows (token_at bytes tokens at) r → new ≡ old ++ piece_in q (token_at bytes tokens at) ∷ [] → m ≡ at + 1 → Advances bytes tokens at m q old new r
 arrow_step bytes tokens at m q r old new le f kept e = subst (λ m. Advances bytes tokens at m q old new r) (sym e) (record {
   row = piece_in q (token_at bytes tokens at) ∷ [];
   kept = kept;
@@ -84,7 +84,7 @@ arrow_step bytes tokens at m q r old new le f kept e = subst (λ m. Advances byt
   ended = λ lt. line_end_over q r (token_at bytes tokens at) f (end_word bytes tokens at lt);
 })
 
-pub tree_step : (bytes : List ℕ) (tokens : List lexer_token.Token) (at end m : ℕ) (q r : State) (k : Setting) (e : Tree) (arrows : List Arrow) (old middle new : List Piece) → at < length tokens → option_map (λ h. h.setting) (choices q).phrase ≡ Some k → ((h : Phrase) → (choices q).phrase ≡ Some h → Parses h.setting greatest_height bytes tokens at (tree e end)) → ((h : Phrase) → (choices q).phrase ≡ Some h → arrows ≡ behind h (run bytes tokens at (end - at))) → Follows arrows (token_at bytes tokens end) r → middle ≡ old ++ pieces.tree e (token_at bytes tokens at).place ∷ [] → new ≡ middle ++ piece (token_at bytes tokens end) ∷ [] → m ≡ end + 1 → Advances bytes tokens at m q old new r
+pub tree_step : (bytes : List ℕ) (tokens : List lexer_token.Token) (at end m : ℕ) (q r : LineState) (k : Setting) (e : Tree) (arrows : List Arrow) (old middle new : List Piece) → at < length tokens → option_map (λ h. h.setting) (choices q).phrase ≡ Some k → ((h : Phrase) → (choices q).phrase ≡ Some h → Parses h.setting greatest_height bytes tokens at (tree e end)) → ((h : Phrase) → (choices q).phrase ≡ Some h → arrows ≡ behind h (run bytes tokens at (end - at))) → Follows arrows (token_at bytes tokens end) r → middle ≡ old ++ pieces.tree e (token_at bytes tokens at).place ∷ [] → new ≡ middle ++ piece (token_at bytes tokens end) ∷ [] → m ≡ end + 1 → Advances bytes tokens at m q old new r
 tree_step bytes tokens at end m q r k e arrows old middle new lt expects parses arrows_are f first second behind_it =
     let y = phrase_some (choices q).phrase k expects in
     let h = y.0 in
@@ -101,10 +101,10 @@ tree_step bytes tokens at end m q r k e arrows old middle new lt expects parses 
 
 -- the whole line
 
-pub begin_goes : (bytes : List ℕ) (tokens : List lexer_token.Token) (at : ℕ) (q : State) (row : List Piece) → row ≡ [] → Goes bytes tokens at at q row q
+pub begin_goes : (bytes : List ℕ) (tokens : List lexer_token.Token) (at : ℕ) (q : LineState) (row : List Piece) → row ≡ [] → Goes bytes tokens at at q row q
 begin_goes bytes tokens at q row e = subst (λ row. Goes bytes tokens at at q row q) (sym e) (record { taken = []; split = refl; leads = nowhere })
 
-pub goes_further : {bytes : List ℕ} {tokens : List lexer_token.Token} {at end end' : ℕ} {q r s : State} {row new : List Piece} → Goes bytes tokens at end q row r → Advances bytes tokens end end' r row new s → Goes bytes tokens at end' q new s
+pub goes_further : {bytes : List ℕ} {tokens : List lexer_token.Token} {at end end' : ℕ} {q r s : LineState} {row new : List Piece} → Goes bytes tokens at end q row r → Advances bytes tokens end end' r row new s → Goes bytes tokens at end' q new s
 goes_further {bytes = bytes} {tokens = tokens} {at = at} {end = end} {end' = end'} {q = q} {s = s} x y =
     record {
       taken = x.taken ++ y.goes.taken;
@@ -112,25 +112,25 @@ goes_further {bytes = bytes} {tokens = tokens} {at = at} {end = end} {end' = end
       leads = subst (λ l. Leads q (x.taken ++ y.goes.taken) l s) (sym y.kept) (leads_on x.leads y.goes.leads);
     }
 
-pub still_within : (n end : ℕ) (r : State) → (n < end → r ≡ state.End) → r ≢ state.End → end ≤ n
+pub still_within : (n end : ℕ) (r : LineState) → (n < end → r ≡ state.End) → r ≢ state.End → end ≤ n
 still_within n end r ended open_ = go (nat_lt n end) refl
   where
     go : (b : Bool) → nat_lt n end ≡ b → end ≤ n
     go true h = absurd (open_ (ended (ltb-true n end h)))
     go false h = ltb-false n end h
 
-pub fits_there : {bytes : List ℕ} {tokens : List lexer_token.Token} {at end : ℕ} {q r : State} {row : List Piece} (s : Setting) → s ≡ setting_at q → Goes bytes tokens at end q row r → FitsSetting s r
+pub fits_there : {bytes : List ℕ} {tokens : List lexer_token.Token} {at end : ℕ} {q r : LineState} {row : List Piece} (s : Setting) → s ≡ setting_at q → Goes bytes tokens at end q row r → FitsSetting s r
 fits_there {r = r} s e x = subst (λ s. FitsSetting s r) (sym e) (leads_fits x.leads)
 
-pub line_read : {bytes : List ℕ} {tokens : List lexer_token.Token} {at end : ℕ} {q r : State} {row : List Piece} → r ≡ state.End → Goes bytes tokens at end q row r → Reads q (tokens_from bytes tokens at) (read row (tokens_from bytes tokens end))
+pub line_read : {bytes : List ℕ} {tokens : List lexer_token.Token} {at end : ℕ} {q r : LineState} {row : List Piece} → r ≡ state.End → Goes bytes tokens at end q row r → Reads q (tokens_from bytes tokens at) (read row (tokens_from bytes tokens end))
 line_read {q = q} {row = row} e x = reads_line x.split (subst (λ r. Leads q x.taken row r) e x.leads)
 
-pub line_refused : (bytes : List ℕ) (tokens : List lexer_token.Token) (at end : ℕ) (q r : State) (row : List Piece) (s : Setting) (n : ℕ) (p : Place) → at ≤ length tokens → s ≡ setting_at q → Goes bytes tokens at end q row r → Stops s r (tokens_from bytes tokens end) n p → Reads q (tokens_from bytes tokens at) (refused n p)
+pub line_refused : (bytes : List ℕ) (tokens : List lexer_token.Token) (at end : ℕ) (q r : LineState) (row : List Piece) (s : Setting) (n : ℕ) (p : Place) → at ≤ length tokens → s ≡ setting_at q → Goes bytes tokens at end q row r → Stops s r (tokens_from bytes tokens end) n p → Reads q (tokens_from bytes tokens at) (refused n p)
 line_refused bytes tokens at end q r row s n p le e x stops =
     reads_stop (tokens_from bytes tokens at) x.split x.leads
     (subst (λ s. Stops s r (tokens_from bytes tokens end) n p) e stops)
 
-pub onward : (q r : State) (at end : ℕ) → (r ≡ q) ⊎ (at < end) → r ≡ state.End → q ≢ state.End → at < end
+pub onward : (q r : LineState) (at end : ℕ) → (r ≡ q) ⊎ (at < end) → r ≡ state.End → q ≢ state.End → at < end
 onward q r at end (inl e) f n = absurd (n (sym e ∙ f))
 onward q r at end (inr lt) f n = lt
 

@@ -22,8 +22,8 @@ use Rattle.p8_expr.specs.Parsing as parsing
 use Rattle.p8_expr.specs.Parsing.{tree, refused, Ends, whole, unfit, broken_off, Parses, refusal_at, IsFault}
 use Rattle.p8_lexer.specs.Pieces as pieces
 use Rattle.p8_lexer.specs.Pieces.{Piece}
-use Rattle.p8_lines.specs.declared.state.State.{State}
-use Rattle.p8_lines.specs.declared.state.State.TheVariants as state
+use Rattle.p8_lines.specs.declared.state.LineState.{LineState}
+use Rattle.p8_lines.specs.declared.state.LineState.TheVariants as state
 use Rattle.p8_lines.specs.Diagram.{Phrase, choices}
 use Rattle.p8_lines.specs.Tokens as line_tokens
 use Rattle.p8_lines.specs.Tokens.{LineToken, term, terms, piece, line_token, tokens_from}
@@ -38,10 +38,10 @@ use Rattle.p8_lines.proofs.Rows.{grouped, leads_way, row_way, at_once, front_beg
 use Rattle.p8_lines.proofs.Texts.{first_at, is_at, is_end, none_within, last_is, text_end_ends, Run, run_of}
 
 -- no step from a state leads over tokens that begin so
-pub record NoStep (q : State) (us : List LineToken) (t : LineToken) : Type 0 where
-  pub refuses : (low : Bool) (r : State) (us' : List LineToken) (row : List Piece) (vs ws : List LineToken) → Step low q us' row r → us' ++ ws ≡ us ++ t ∷ vs → ⊥
+pub record NoStep (q : LineState) (us : List LineToken) (t : LineToken) : Type 0 where
+  pub refuses : (low : Bool) (r : LineState) (us' : List LineToken) (row : List Piece) (vs ws : List LineToken) → Step low q us' row r → us' ++ ws ≡ us ++ t ∷ vs → ⊥
 
-no_way : {low : Bool} {q s : State} {ws : List LineToken} {row : List Piece} (us : List LineToken) (t : LineToken) (vs rest : List LineToken) → NoStep q us t → Way low q ws row s → ws ++ rest ≡ us ++ t ∷ vs → ws ≡ []
+no_way : {low : Bool} {q s : LineState} {ws : List LineToken} {row : List Piece} (us : List LineToken) (t : LineToken) (vs rest : List LineToken) → NoStep q us t → Way low q ws row s → ws ++ rest ≡ us ++ t ∷ vs → ws ≡ []
 no_way us t vs rest n none e = refl
 no_way {low = low} us t vs rest n (more {r = r} {us = us'} {vs = vs'} {row = row} x w) e = absurd (n.refuses low r us' row vs (vs' ++ rest) x (sym (append_assoc us' vs' rest) ∙ e))
 
@@ -50,7 +50,7 @@ some_left [] t vs e = absurd cc
 some_left (u ∷ us) t vs e = absurd cc
 
 -- so reading stops there
-stops_so : (s : Setting) (q : State) (us : List LineToken) (t : LineToken) (vs ts : List LineToken) → ts ≡ us ++ t ∷ vs → Begins q us → q ≢ state.End → NoStep q us t → ((h : Phrase) → (choices q).phrase ≡ Some h → ¬ IsTooHigh h us) → Stops s q ts (number_of s (line_tokens.word t)) t.place
+stops_so : (s : Setting) (q : LineState) (us : List LineToken) (t : LineToken) (vs ts : List LineToken) → ts ≡ us ++ t ∷ vs → Begins q us → q ≢ state.End → NoStep q us t → ((h : Phrase) → (choices q).phrase ≡ Some h → ¬ IsTooHigh h us) → Stops s q ts (number_of s (line_tokens.word t)) t.place
 stops_so s q us t vs ts e begins open_ n low = stopped t vs e begins no_line ends no_high
   where
     no_line : (row : List Piece) → ¬ Row q row us
@@ -69,10 +69,10 @@ stops_so s q us t vs ts e begins open_ n low = stopped t vs e begins no_line end
         low y.phrase (ap (λ q. (choices q).phrase) there ∙ y.expects) (subst (IsTooHigh y.phrase) (sym (y.split ∙ ap (λ l. l ++ y.after) nothing)) y.high)
 
 -- where a token has no arrow and no expression may stand
-pub alone_stops : (s : Setting) (q : State) (t : LineToken) (vs ts : List LineToken) → ts ≡ t ∷ vs → q ≢ state.End → ((r : State) → ¬ Follows (choices q).arrows t r) → (choices q).phrase ≡ None → Stops s q ts (number_of s (line_tokens.word t)) t.place
+pub alone_stops : (s : Setting) (q : LineState) (t : LineToken) (vs ts : List LineToken) → ts ≡ t ∷ vs → q ≢ state.End → ((r : LineState) → ¬ Follows (choices q).arrows t r) → (choices q).phrase ≡ None → Stops s q ts (number_of s (line_tokens.word t)) t.place
 alone_stops s q t vs ts e open_ unfollowed no_phrase = stops_so s q [] t vs ts e (completed q) open_ (record { refuses = no_step }) (λ h p. let z = sym no_phrase ∙ p in absurd cc)
   where
-    no_step : (low : Bool) (r : State) (us' : List LineToken) (row : List Piece) (vs ws : List LineToken) → Step low q us' row r → us' ++ ws ≡ t ∷ vs → ⊥
+    no_step : (low : Bool) (r : LineState) (us' : List LineToken) (row : List Piece) (vs ws : List LineToken) → Step low q us' row r → us' ++ ws ≡ t ∷ vs → ⊥
     no_step low r us' row vs ws (token {t = u} f) e = let firsts : u ≡ t = cc in unfollowed r (subst (λ u. Follows (choices q).arrows u r) firsts f)
     no_step low r us' row vs ws (phrase {h = h} others p x l f) e = let z = sym no_phrase ∙ p in absurd cc
 
@@ -85,7 +85,7 @@ is_first [] t vs u l e = cc
 is_first (v ∷ us) t vs u l e = cc
 
 -- where tokens begin an expression and the next one doesn't go on with it
-pub behind_stops : (s : Setting) (q : State) (h : Phrase) (us : List LineToken) (t : LineToken) (vs ts : List LineToken) → ts ≡ us ++ t ∷ vs → (choices q).phrase ≡ Some h → ((u : LineToken) (l : List LineToken) → ts ≡ u ∷ l → (r : State) → ¬ Follows (choices q).arrows u r) → IsFront h.setting (terms us) → ¬ IsFront h.setting (terms us ++ term t ∷ []) → ((e : Tree) → IsExpression h.setting e (terms us) → (r : State) → ¬ Follows (behind h us) t r) → ¬ heights.IsTooHigh h.setting greatest_height (terms us) → Stops s q ts (number_of s (line_tokens.word t)) t.place
+pub behind_stops : (s : Setting) (q : LineState) (h : Phrase) (us : List LineToken) (t : LineToken) (vs ts : List LineToken) → ts ≡ us ++ t ∷ vs → (choices q).phrase ≡ Some h → ((u : LineToken) (l : List LineToken) → ts ≡ u ∷ l → (r : LineState) → ¬ Follows (choices q).arrows u r) → IsFront h.setting (terms us) → ¬ IsFront h.setting (terms us ++ term t ∷ []) → ((e : Tree) → IsExpression h.setting e (terms us) → (r : LineState) → ¬ Follows (behind h us) t r) → ¬ heights.IsTooHigh h.setting greatest_height (terms us) → Stops s q ts (number_of s (line_tokens.word t)) t.place
 behind_stops s q h us t vs ts e p unfollowed begins ends not_behind low =
     stops_so s q us t vs ts e (front_begins q h us p begins) (λ x. none_there h q x p) (record { refuses = no_step }) not_too_high
   where
@@ -93,7 +93,7 @@ behind_stops s q h us t vs ts e p unfollowed begins ends not_behind low =
     first_one [] vs = (vs, refl)
     first_one (u ∷ us) vs = (us ++ t ∷ vs, refl)
 
-    no_arrow : (r : State) → ¬ Follows (choices q).arrows (first_of us t) r
+    no_arrow : (r : LineState) → ¬ Follows (choices q).arrows (first_of us t) r
     no_arrow = let y = first_one us vs in unfollowed (first_of us t) y.0 (e ∙ y.1)
 
     not_too_high : (k : Phrase) → (choices q).phrase ≡ Some k → ¬ IsTooHigh k us
@@ -102,7 +102,7 @@ behind_stops s q h us t vs ts e p unfollowed begins ends not_behind low =
         let high = subst (λ k. heights.IsTooHigh k.setting greatest_height (terms y.front)) phrases y.high in
         low (subst (λ l. heights.IsTooHigh h.setting greatest_height (terms l)) (sym y.split) (stays_high h.setting greatest_height y.front y.rest high))
 
-    over : (r : State) (e' : Tree) (us' : List LineToken) (x : LineToken) (vs ws : List LineToken) → IsExpression h.setting e' (terms us') → Follows (behind h us') x r → Compared us' (x ∷ ws) us (t ∷ vs) → ⊥
+    over : (r : LineState) (e' : Tree) (us' : List LineToken) (x : LineToken) (vs ws : List LineToken) → IsExpression h.setting e' (terms us') → Follows (behind h us') x r → Compared us' (x ∷ ws) us (t ∷ vs) → ⊥
     over r e' us' x vs ws y f (same a b) =
         let nexts : x ≡ t = cc in
         not_behind e' (subst (λ l. IsExpression h.setting e' (terms l)) a y) r (subst (λ l. Follows (behind h l) t r) a (subst (λ x. Follows (behind h us') x r) nexts f))
@@ -113,7 +113,7 @@ behind_stops s q h us t vs ts e p unfollowed begins ends not_behind low =
         let nexts : u ≡ x = cc in
         behind_fails q h e' us' x r p y f (subst (λ u. IsFront h.setting (terms us' ++ term u ∷ [])) nexts (front_with h.setting us' u l (subst (λ l. IsFront h.setting (terms l)) a begins)))
 
-    no_step : (low : Bool) (r : State) (us' : List LineToken) (row : List Piece) (vs ws : List LineToken) → Step low q us' row r → us' ++ ws ≡ us ++ t ∷ vs → ⊥
+    no_step : (low : Bool) (r : LineState) (us' : List LineToken) (row : List Piece) (vs ws : List LineToken) → Step low q us' row r → us' ++ ws ≡ us ++ t ∷ vs → ⊥
     no_step low r us' row vs ws (token {t = u} f) e = no_arrow r (subst (λ u. Follows (choices q).arrows u r) (is_first us t vs u ws e) f)
     no_step low r us' row vs ws (phrase {h = k} {e = e'} {first = y} {t = x} others p' z l f) e =
         let phrases : k ≡ h = (let z = sym p' ∙ p in cc) in
@@ -124,17 +124,17 @@ behind_stops s q h us t vs ts e p unfollowed begins ends not_behind low =
 
 -- the steps of the code
 
-pub arrow_goes : (bytes : List ℕ) (tokens : List lexer_token.Token) (at : ℕ) (q r : State) → at ≤ length tokens → Follows (choices q).arrows (token_at bytes tokens at) r → Goes bytes tokens at (at + 1) q (piece_in q (token_at bytes tokens at) ∷ []) r
+pub arrow_goes : (bytes : List ℕ) (tokens : List lexer_token.Token) (at : ℕ) (q r : LineState) → at ≤ length tokens → Follows (choices q).arrows (token_at bytes tokens at) r → Goes bytes tokens at (at + 1) q (piece_in q (token_at bytes tokens at) ∷ []) r
 arrow_goes bytes tokens at q r le f = record { taken = token_at bytes tokens at ∷ []; split = first_at bytes tokens at le; leads = by_token f nowhere }
 
-pub no_phrase_stops : (s : Setting) (bytes : List ℕ) (tokens : List lexer_token.Token) (at : ℕ) (q : State) → at ≤ length tokens → q ≢ state.End → ((r : State) → ¬ Follows (choices q).arrows (token_at bytes tokens at) r) → (choices q).phrase ≡ None → Stops s q (tokens_from bytes tokens at) (number_of s (line_tokens.word (token_at bytes tokens at))) (token_at bytes tokens at).place
+pub no_phrase_stops : (s : Setting) (bytes : List ℕ) (tokens : List lexer_token.Token) (at : ℕ) (q : LineState) → at ≤ length tokens → q ≢ state.End → ((r : LineState) → ¬ Follows (choices q).arrows (token_at bytes tokens at) r) → (choices q).phrase ≡ None → Stops s q (tokens_from bytes tokens at) (number_of s (line_tokens.word (token_at bytes tokens at))) (token_at bytes tokens at).place
 no_phrase_stops s bytes tokens at q le open_ unfollowed p = alone_stops s q (token_at bytes tokens at) (tokens_from bytes tokens (at + 1)) (tokens_from bytes tokens at) (first_at bytes tokens at le) open_ unfollowed p
 
-unfollowed_first : (q : State) (t : LineToken) (vs ts : List LineToken) → ts ≡ t ∷ vs → ((r : State) → ¬ Follows (choices q).arrows t r) → (u : LineToken) (l : List LineToken) → ts ≡ u ∷ l → (r : State) → ¬ Follows (choices q).arrows u r
+unfollowed_first : (q : LineState) (t : LineToken) (vs ts : List LineToken) → ts ≡ t ∷ vs → ((r : LineState) → ¬ Follows (choices q).arrows t r) → (u : LineToken) (l : List LineToken) → ts ≡ u ∷ l → (r : LineState) → ¬ Follows (choices q).arrows u r
 unfollowed_first q t vs ts e n u l e' r f = let firsts : u ≡ t = (let z = sym e' ∙ e in cc) in n r (subst (λ u. Follows (choices q).arrows u r) firsts f)
 
 -- at the text's end no expression stands
-pub end_stops : (s : Setting) (bytes : List ℕ) (tokens : List lexer_token.Token) (at : ℕ) (q : State) (h : Phrase) → at ≡ length tokens → ((r : State) → ¬ Follows (choices q).arrows (token_at bytes tokens at) r) → (choices q).phrase ≡ Some h → Stops s q (tokens_from bytes tokens at) (number_of s (line_tokens.word (token_at bytes tokens at))) (token_at bytes tokens at).place
+pub end_stops : (s : Setting) (bytes : List ℕ) (tokens : List lexer_token.Token) (at : ℕ) (q : LineState) (h : Phrase) → at ≡ length tokens → ((r : LineState) → ¬ Follows (choices q).arrows (token_at bytes tokens at) r) → (choices q).phrase ≡ Some h → Stops s q (tokens_from bytes tokens at) (number_of s (line_tokens.word (token_at bytes tokens at))) (token_at bytes tokens at).place
 end_stops s bytes tokens at q h here unfollowed p =
     let e = first_at bytes tokens at (omega (arith, here)) in
     let is = is_end bytes tokens at (slice_get_past tokens at (omega (arith, here))) in
@@ -202,7 +202,7 @@ split_there {bytes = bytes} {tokens = tokens} {at = at} {end = end} y =
     y.longest.split ∙ ap (λ l. run bytes tokens at (end - at) ++ l) (ap (tokens_from bytes tokens) y.behind ∙ first_at bytes tokens end (within y))
 
 -- a tree with an arrow after it leads on
-pub tree_goes : (bytes : List ℕ) (tokens : List lexer_token.Token) (at end : ℕ) (q r : State) (h : Phrase) (e : Tree) → (choices q).phrase ≡ Some h → Spelled h bytes tokens at end e → Follows (behind h (run bytes tokens at (end - at))) (token_at bytes tokens end) r → Goes bytes tokens at (end + 1) q (pieces.tree e (token_at bytes tokens at).place ∷ piece (token_at bytes tokens end) ∷ []) r
+pub tree_goes : (bytes : List ℕ) (tokens : List lexer_token.Token) (at end : ℕ) (q r : LineState) (h : Phrase) (e : Tree) → (choices q).phrase ≡ Some h → Spelled h bytes tokens at end e → Follows (behind h (run bytes tokens at (end - at))) (token_at bytes tokens end) r → Goes bytes tokens at (end + 1) q (pieces.tree e (token_at bytes tokens at).place ∷ piece (token_at bytes tokens end) ∷ []) r
 tree_goes bytes tokens at end q r h e p y f = go (run bytes tokens at (end - at)) refl
   where
     t : LineToken
@@ -222,7 +222,7 @@ tree_goes bytes tokens at end q r h e p y f = go (run bytes tokens at (end - at)
         }
 
 -- and without one reading stops after it
-pub tree_stops : (s : Setting) (bytes : List ℕ) (tokens : List lexer_token.Token) (at end : ℕ) (q : State) (h : Phrase) (e : Tree) → (choices q).phrase ≡ Some h → ((r : State) → ¬ Follows (choices q).arrows (token_at bytes tokens at) r) → Spelled h bytes tokens at end e → ((r : State) → ¬ Follows (behind h (run bytes tokens at (end - at))) (token_at bytes tokens end) r) → Stops s q (tokens_from bytes tokens at) (number_of s (line_tokens.word (token_at bytes tokens end))) (token_at bytes tokens end).place
+pub tree_stops : (s : Setting) (bytes : List ℕ) (tokens : List lexer_token.Token) (at end : ℕ) (q : LineState) (h : Phrase) (e : Tree) → (choices q).phrase ≡ Some h → ((r : LineState) → ¬ Follows (choices q).arrows (token_at bytes tokens at) r) → Spelled h bytes tokens at end e → ((r : LineState) → ¬ Follows (behind h (run bytes tokens at (end - at))) (token_at bytes tokens end) r) → Stops s q (tokens_from bytes tokens at) (number_of s (line_tokens.word (token_at bytes tokens end))) (token_at bytes tokens end).place
 tree_stops s bytes tokens at end q h e p unfollowed y not_behind =
     let le : at ≤ length tokens = (let w = within y in let o = y.ordered in omega (arith, w, o)) in
     behind_stops s q h (run bytes tokens at (end - at)) (token_at bytes tokens end) (tokens_from bytes tokens (end + 1)) (tokens_from bytes tokens at) (split_there y) p
@@ -234,7 +234,7 @@ tree_stops s bytes tokens at end q h e p unfollowed y not_behind =
 
 -- a refusal of the expression
 
-stops_as : {s : Setting} {q : State} {ts : List LineToken} {n m : ℕ} {p p' : Place} → Stops s q ts n p → n ≡ m → p ≡ p' → Stops s q ts m p'
+stops_as : {s : Setting} {q : LineState} {ts : List LineToken} {n m : ℕ} {p p' : Place} → Stops s q ts n p → n ≡ m → p ≡ p' → Stops s q ts m p'
 stops_as {s = s} {q = q} {ts = ts} {n = n} {m = m} {p = p} {p' = p'} x e f = subst (λ p. Stops s q ts m p) f (subst (λ n. Stops s q ts n p) e x)
 
 line_end_fits : (s : Setting) → refusal_of s word.LineEnd ≡ None
@@ -245,7 +245,7 @@ refusal_is : (s : Setting) (bytes : List ℕ) (tokens : List lexer_token.Token) 
 unfolding refusal_at
 refusal_is s bytes tokens i t h = ap (option_and_then (λ t. refusal_of s (word_of bytes t))) h
 
-pub refused_stops : (s : Setting) (bytes : List ℕ) (tokens : List lexer_token.Token) (at : ℕ) (q : State) (h : Phrase) (fault : Fault) → at < length tokens → (choices q).phrase ≡ Some h → FitsSetting s q → ((r : State) → ¬ Follows (choices q).arrows (token_at bytes tokens at) r) → IsFault h.setting greatest_height bytes tokens at fault → Stops s q (tokens_from bytes tokens at) fault.number fault.place
+pub refused_stops : (s : Setting) (bytes : List ℕ) (tokens : List lexer_token.Token) (at : ℕ) (q : LineState) (h : Phrase) (fault : Fault) → at < length tokens → (choices q).phrase ≡ Some h → FitsSetting s q → ((r : LineState) → ¬ Follows (choices q).arrows (token_at bytes tokens at) r) → IsFault h.setting greatest_height bytes tokens at fault → Stops s q (tokens_from bytes tokens at) fault.number fault.place
 refused_stops s bytes tokens at q h fault lt p fits unfollowed (r, i, (n, long, ends), (t, get, number, place)) = go (ends_refused h.setting greatest_height bytes tokens at (at + n) (take n (parsing.tokens_from bytes tokens at)) r i ends)
   where
     y : Run h.setting bytes tokens at n
@@ -263,7 +263,7 @@ refused_stops s bytes tokens at q h fault lt p fits unfollowed (r, i, (n, long, 
     not_high_there : ¬ heights.IsTooHigh h.setting greatest_height (take n (parsing.tokens_from bytes tokens at)) → ¬ heights.IsTooHigh h.setting greatest_height (terms (run bytes tokens at n))
     not_high_there low high = low (subst (λ l. heights.IsTooHigh h.setting greatest_height l) y.terms_are high)
 
-    stops_behind : ¬ heights.IsTooHigh h.setting greatest_height (take n (parsing.tokens_from bytes tokens at)) → ((e : Tree) → IsExpression h.setting e (terms (run bytes tokens at n)) → (r : State) → ¬ Follows (behind h (run bytes tokens at n)) (token_at bytes tokens (at + n)) r) → Stops s q (tokens_from bytes tokens at) (number_of s (line_tokens.word (token_at bytes tokens (at + n)))) (token_at bytes tokens (at + n)).place
+    stops_behind : ¬ heights.IsTooHigh h.setting greatest_height (take n (parsing.tokens_from bytes tokens at)) → ((e : Tree) → IsExpression h.setting e (terms (run bytes tokens at n)) → (r : LineState) → ¬ Follows (behind h (run bytes tokens at n)) (token_at bytes tokens (at + n)) r) → Stops s q (tokens_from bytes tokens at) (number_of s (line_tokens.word (token_at bytes tokens (at + n)))) (token_at bytes tokens (at + n)).place
     stops_behind low not_behind =
         behind_stops s q h (run bytes tokens at n) (token_at bytes tokens (at + n)) (tokens_from bytes tokens (at + n + 1)) (tokens_from bytes tokens at)
         (y.split ∙ ap (λ l. run bytes tokens at n ++ l) (first_at bytes tokens (at + n) y.within)) p

@@ -11,7 +11,7 @@ use Rattle.p8_lexer.specs.declared.token.TokenKind.TheVariants as kind
 use Rattle.p8_lexer.specs.Words.{capital, word_of_kind, word_of}
 use Rattle.p8_expr.specs.Words.{lexeme_of_word, lexeme_by_word, reserved_as, lexeme_by_kind, lexeme_of_token}
 use Rattle.p8_lines.specs.declared.arrow.Arrow.{Arrow}
-use Rattle.p8_lines.specs.declared.state.State.{State}
+use Rattle.p8_lines.specs.declared.state.LineState.{LineState}
 use Rattle.p8_lines.specs.Signs.{Matches}
 use Rattle.p8_lines.specs.Tokens as line_tokens
 use Rattle.p8_lines.specs.Tokens.{LineToken, lexeme, string_length, piece, piece_from, label_piece, line_token, text_end, tokens_from}
@@ -75,14 +75,14 @@ not_named t w e n r = go t.kind e
 -- the first so many arrows don't stand for this word
 
 pub record Skipped (arrows : List Arrow) (i : ℕ) (w : Word) (n : ℕ) : Type 0 where
-  pub back : (t : LineToken) (r : State) → line_tokens.word t ≡ w → string_length t ≡ n → Follows (drop i arrows) t r → Follows arrows t r
-  pub forth : (t : LineToken) (r : State) → line_tokens.word t ≡ w → string_length t ≡ n → Follows arrows t r → Follows (drop i arrows) t r
+  pub back : (t : LineToken) (r : LineState) → line_tokens.word t ≡ w → string_length t ≡ n → Follows (drop i arrows) t r → Follows arrows t r
+  pub forth : (t : LineToken) (r : LineState) → line_tokens.word t ≡ w → string_length t ≡ n → Follows arrows t r → Follows (drop i arrows) t r
 
 pub none_skipped : (arrows : List Arrow) (w : Word) (n : ℕ) → Skipped arrows 0 w n
 none_skipped arrows w n = record { back = λ t r e l f. f; forth = λ t r e l f. f }
 
-on : (a : Arrow) (w : Word) (n : ℕ) (t : LineToken) → line_tokens.word t ≡ w → string_length t ≡ n → Matches a.sign w n → IsOn a t
-on a w n t e l m = subst (λ v. Matches a.sign v (string_length t)) (sym e) (subst (Matches a.sign w) (sym l) m)
+on_matching : (a : Arrow) (w : Word) (n : ℕ) (t : LineToken) → line_tokens.word t ≡ w → string_length t ≡ n → Matches a.sign w n → IsOn a t
+on_matching a w n t e l m = subst (λ v. Matches a.sign v (string_length t)) (sym e) (subst (Matches a.sign w) (sym l) m)
 
 off : (a : Arrow) (w : Word) (n : ℕ) (t : LineToken) → line_tokens.word t ≡ w → string_length t ≡ n → IsOn a t → Matches a.sign w n
 off a w n t e l m = subst (Matches a.sign w) l (subst (λ v. Matches a.sign v (string_length t)) e m)
@@ -90,7 +90,7 @@ off a w n t e l m = subst (Matches a.sign w) l (subst (λ v. Matches a.sign v (s
 cut_at : (arrows : List Arrow) (i : ℕ) (d : Arrow) → i < length arrows → drop i arrows ≡ get_or arrows i d ∷ drop (i + 1) arrows
 cut_at arrows i d lt = drop-cons arrows i d lt ∙ ap (λ k. get_or arrows i d ∷ drop k arrows) (sym (add-one i))
 
-others_of : {a : Arrow} {others : List Arrow} {t : LineToken} {r : State} → ¬ IsOn a t → Follows (a ∷ others) t r → Follows others t r
+others_of : {a : Arrow} {others : List Arrow} {t : LineToken} {r : LineState} → ¬ IsOn a t → Follows (a ∷ others) t r → Follows others t r
 others_of n (here x) = absurd (n x)
 others_of n (further x f) = f
 
@@ -101,9 +101,9 @@ one_more arrows i w n d lt m s = record {
 }
 
 pub leads_there : (arrows : List Arrow) (i : ℕ) (w : Word) (n : ℕ) (d : Arrow) → i < length arrows → Matches (get_or arrows i d).sign w n → Skipped arrows i w n → (t : LineToken) → line_tokens.word t ≡ w → string_length t ≡ n → Follows arrows t (get_or arrows i d).to
-leads_there arrows i w n d lt m s t x l = s.back t (get_or arrows i d).to x l (subst (λ k. Follows k t (get_or arrows i d).to) (sym (cut_at arrows i d lt)) (here (on (get_or arrows i d) w n t x l m)))
+leads_there arrows i w n d lt m s t x l = s.back t (get_or arrows i d).to x l (subst (λ k. Follows k t (get_or arrows i d).to) (sym (cut_at arrows i d lt)) (here (on_matching (get_or arrows i d) w n t x l m)))
 
-no_arrows : {arrows : List Arrow} {t : LineToken} {r : State} → Follows arrows t r → arrows ≡ [] → ⊥
+no_arrows : {arrows : List Arrow} {t : LineToken} {r : LineState} → Follows arrows t r → arrows ≡ [] → ⊥
 no_arrows (here x) e = absurd cc
 no_arrows (further x f) e = absurd cc
 
@@ -113,15 +113,15 @@ drop_past [] (suc i) le = refl
 drop_past (a ∷ others) zero le = absurd (omega (arith, le))
 drop_past (a ∷ others) (suc i) le = drop_past others i (omega (arith, le))
 
-pub leads_nowhere : (arrows : List Arrow) (i : ℕ) (w : Word) (n : ℕ) → length arrows ≤ i → Skipped arrows i w n → (t : LineToken) → line_tokens.word t ≡ w → string_length t ≡ n → (r : State) → ¬ Follows arrows t r
+pub leads_nowhere : (arrows : List Arrow) (i : ℕ) (w : Word) (n : ℕ) → length arrows ≤ i → Skipped arrows i w n → (t : LineToken) → line_tokens.word t ≡ w → string_length t ≡ n → (r : LineState) → ¬ Follows arrows t r
 leads_nowhere arrows i w n le s t x l r f = no_arrows (s.forth t r x l f) (drop_past arrows i le)
 
 -- what a look-up says
-pub no_follow : (l : List Arrow) (t : LineToken) (o : Option State) → MatchOption o ((r : State) → ¬ Follows l t r) (Follows l t) → o ≡ None → (r : State) → ¬ Follows l t r
-no_follow l t o m e = subst (λ o. MatchOption o ((r : State) → ¬ Follows l t r) (Follows l t)) e m
+pub no_follow : (l : List Arrow) (t : LineToken) (o : Option LineState) → MatchOption o ((r : LineState) → ¬ Follows l t r) (Follows l t) → o ≡ None → (r : LineState) → ¬ Follows l t r
+no_follow l t o m e = subst (λ o. MatchOption o ((r : LineState) → ¬ Follows l t r) (Follows l t)) e m
 
-pub follow : (l : List Arrow) (t : LineToken) (o : Option State) (r : State) → MatchOption o ((r : State) → ¬ Follows l t r) (Follows l t) → o ≡ Some r → Follows l t r
-follow l t o r m e = subst (λ o. MatchOption o ((r : State) → ¬ Follows l t r) (Follows l t)) e m
+pub follow : (l : List Arrow) (t : LineToken) (o : Option LineState) (r : LineState) → MatchOption o ((r : LineState) → ¬ Follows l t r) (Follows l t) → o ≡ Some r → Follows l t r
+follow l t o r m e = subst (λ o. MatchOption o ((r : LineState) → ¬ Follows l t r) (Follows l t)) e m
 
 -- the piece of a token
 pub piece_there : (bytes : List ℕ) (tokens : List lexer_token.Token) (at : ℕ) (t : lexer_token.Token) (x : Lexeme) (w : Word) (p : Place) (y : Piece) → slice_get tokens at ≡ Some t → y ≡ piece_from x w p → x ≡ lexeme_of_token bytes t → w ≡ word_of bytes t → p ≡ (token_at bytes tokens at).place → y ≡ piece (token_at bytes tokens at)
@@ -155,7 +155,7 @@ piece_end bytes tokens at p h d =
 one_token : (bytes : List ℕ) (tokens : List lexer_token.Token) (at n : ℕ) → at ≤ length tokens → n ≡ 1 → run bytes tokens at n ≡ token_at bytes tokens at ∷ []
 one_token bytes tokens at n le e = ap (λ n. take n (tokens_from bytes tokens at)) e ∙ ap (λ l. take 1 l) (first_at bytes tokens at le)
 
-pub behind_one : (bytes : List ℕ) (tokens : List lexer_token.Token) (at n : ℕ) (q : State) (l : List Arrow) (b : Bool) → l ≡ (if b then behind_name_in (choices q).phrase else behind_in (choices q).phrase) → at ≤ length tokens → n ≡ 1 → b ≡ is_name_word (lexeme (token_at bytes tokens at)) → (h : Phrase) → (choices q).phrase ≡ Some h → l ≡ behind h (run bytes tokens at n)
+pub behind_one : (bytes : List ℕ) (tokens : List lexer_token.Token) (at n : ℕ) (q : LineState) (l : List Arrow) (b : Bool) → l ≡ (if b then behind_name_in (choices q).phrase else behind_in (choices q).phrase) → at ≤ length tokens → n ≡ 1 → b ≡ is_name_word (lexeme (token_at bytes tokens at)) → (h : Phrase) → (choices q).phrase ≡ Some h → l ≡ behind h (run bytes tokens at n)
 behind_one bytes tokens at n q l b e le one is h p =
     e ∙ (λ i. if is i then behind_name_in (p i) else behind_in (p i)) ∙ ap (behind h) (sym (one_token bytes tokens at n le one))
 
@@ -164,6 +164,6 @@ several bytes tokens at zero le e = refl
 several bytes tokens at (suc zero) le e = absurd (e refl)
 several bytes tokens at (suc (suc n)) le e = ap (λ l. is_name (take (suc (suc n)) l)) (first_at bytes tokens at (omega (arith, le)) ∙ ap (λ l. token_at bytes tokens at ∷ l) (first_at bytes tokens (at + 1) (omega (arith, le))))
 
-pub behind_several : (bytes : List ℕ) (tokens : List lexer_token.Token) (at n : ℕ) (q : State) (l : List Arrow) → l ≡ behind_in (choices q).phrase → at + n ≤ length tokens → n ≢ 1 → (h : Phrase) → (choices q).phrase ≡ Some h → l ≡ behind h (run bytes tokens at n)
+pub behind_several : (bytes : List ℕ) (tokens : List lexer_token.Token) (at n : ℕ) (q : LineState) (l : List Arrow) → l ≡ behind_in (choices q).phrase → at + n ≤ length tokens → n ≢ 1 → (h : Phrase) → (choices q).phrase ≡ Some h → l ≡ behind h (run bytes tokens at n)
 behind_several bytes tokens at n q l e le several_there h p =
     e ∙ ap behind_in p ∙ ap (λ b. if b then h.behind_name else h.behind_other) (sym (several bytes tokens at n le several_there))

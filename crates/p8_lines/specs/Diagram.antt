@@ -7,17 +7,17 @@ use Rattle.p8_lexer.specs.declared.word.Word.TheVariants as word
 use Rattle.p8_grammar.specs.Lexemes.{Setting, in_method, in_declaration, in_dat, in_data_item, in_action}
 use Rattle.p8_lines.specs.declared.sign.Sign.{Sign}
 use Rattle.p8_lines.specs.declared.sign.Sign.TheVariants as sign
-use Rattle.p8_lines.specs.declared.state.State.{State}
-use Rattle.p8_lines.specs.declared.state.State.TheVariants as state
+use Rattle.p8_lines.specs.declared.state.LineState.{LineState}
+use Rattle.p8_lines.specs.declared.state.LineState.TheVariants as state
 use Rattle.p8_lines.specs.declared.arrow.Arrow.{Arrow}
 
 infix 70 ◌⇒◌
 -- a word, and where it leads
-abbrev pub ◌⇒◌ : Word → State → Arrow
+abbrev pub ◌⇒◌ : Word → LineState → Arrow
 w ⇒ q = record { sign = sign.Word w; to = q }
 
 -- each token of a kind, and where it leads
-abbrev pub any : Sign → State → Arrow
+abbrev pub any : Sign → LineState → Arrow
 any s q = record { sign = s; to = q }
 
 -- an expression, or an action: where it stands, and the tokens that may stand after it, where it is one name and where it
@@ -48,7 +48,7 @@ expression h = record { arrows = []; phrase = Some h }
 abbrev pub either : List Arrow → Phrase → Choices
 either a h = record { arrows = a; phrase = Some h }
 
-abbrev pub choices : State → Choices
+abbrev pub choices : LineState → Choices
 -- The line has ended.
 choices state.End = tokens ([])
 choices state.LineEnd = tokens (word.LineEnd ⇒ state.End ∷ [])
@@ -147,7 +147,7 @@ choices state.CaseRange = expression (outer in_method (word.Comma ⇒ state.Case
 choices state.OtherColon = tokens (word.Colon ⇒ state.End ∷ [])
 
 -- where a line's words stand: in a declaration, in DAT or in a method
-abbrev pub setting_at : State → Setting
+abbrev pub setting_at : LineState → Setting
 setting_at state.ConHead = in_declaration
 setting_at state.ConItem = in_declaration
 setting_at state.ConName = in_declaration

@@ -14,8 +14,8 @@ pub use Rattle.p8_expr.specs.Parsing.{greatest_height}
 use Rattle.p8_lexer.specs.Pieces.{Piece, tree}
 use Rattle.p8_lines.specs.Signs.{Matches}
 use Rattle.p8_lines.specs.declared.arrow.Arrow.{Arrow}
-use Rattle.p8_lines.specs.declared.state.State.{State}
-use Rattle.p8_lines.specs.declared.state.State.TheVariants as state
+use Rattle.p8_lines.specs.declared.state.LineState.{LineState}
+use Rattle.p8_lines.specs.declared.state.LineState.TheVariants as state
 use Rattle.p8_lines.specs.Diagram.{Phrase, choices, setting_at}
 use Rattle.p8_lines.specs.Tokens.{LineToken, word, lexeme, terms, string_length, piece, label_piece}
 
@@ -23,9 +23,9 @@ abbrev pub IsOn : Arrow → LineToken → Type 0
 IsOn a t = Matches a.sign (word t) (string_length t)
 
 -- the first of the arrows that has the token leads to this state
-pub data Follows : List Arrow → LineToken → State → Type 0 where
+pub data Follows : List Arrow → LineToken → LineState → Type 0 where
   here : {a : Arrow} {others : List Arrow} {t : LineToken} → IsOn a t → Follows (a ∷ others) t a.to
-  further : {a : Arrow} {others : List Arrow} {t : LineToken} {q : State} → ¬ IsOn a t → Follows others t q → Follows (a ∷ others) t q
+  further : {a : Arrow} {others : List Arrow} {t : LineToken} {q : LineState} → ¬ IsOn a t → Follows others t q → Follows (a ∷ others) t q
 
 -- a name alone, or RESULT
 abbrev pub is_name_word : Lexeme → Bool
@@ -46,30 +46,30 @@ abbrev pub behind : Phrase → List LineToken → List Arrow
 behind h us = if is_name us then h.behind_name else h.behind_other
 
 -- the piece of a token that may stand at a state
-abbrev pub piece_in : State → LineToken → Piece
+abbrev pub piece_in : LineState → LineToken → Piece
 piece_in state.DatLabel t = label_piece t
 piece_in state.CallLocal t = label_piece t
 piece_in q t = piece t
 
 -- From a state on, these tokens are a line, or what is left of one, and these are its pieces.
-pub data Row : State → List Piece → List LineToken → Type 0 where
+pub data Row : LineState → List Piece → List LineToken → Type 0 where
   over : Row state.End [] []
-  token : {q r : State} {row : List Piece} {t : LineToken} {ts : List LineToken} → Follows (choices q).arrows t r → Row r row ts →
+  token : {q r : LineState} {row : List Piece} {t : LineToken} {ts : List LineToken} → Follows (choices q).arrows t r → Row r row ts →
       Row q (piece_in q t ∷ row) (t ∷ ts)
-  phrase : {q r : State} {h : Phrase} {e : Tree} {row : List Piece} {first t : LineToken} (others : List LineToken) {ts : List LineToken} →
+  phrase : {q r : LineState} {h : Phrase} {e : Tree} {row : List Piece} {first t : LineToken} (others : List LineToken) {ts : List LineToken} →
       (choices q).phrase ≡ Some h → IsExpression h.setting e (terms (first ∷ others)) → Follows (behind h (first ∷ others)) t r → Row r row ts →
       Row q (tree e first.place ∷ piece t ∷ row) ((first ∷ others) ++ t ∷ ts)
 
 -- some line, or what is left of one, begins with these tokens
-abbrev pub Begins : State → List LineToken → Type 0
+abbrev pub Begins : LineState → List LineToken → Type 0
 Begins q ts = (rest : List LineToken) × (row : List Piece) × Row q row (ts ++ rest)
 
 -- These tokens lead from one state to another, as these pieces; no expression among them is too high.
-pub data Leads : State → List LineToken → List Piece → State → Type 0 where
-  nowhere : {q : State} → Leads q [] [] q
-  by_token : {q r s : State} {row : List Piece} {t : LineToken} {ts : List LineToken} → Follows (choices q).arrows t r → Leads r ts row s →
+pub data Leads : LineState → List LineToken → List Piece → LineState → Type 0 where
+  nowhere : {q : LineState} → Leads q [] [] q
+  by_token : {q r s : LineState} {row : List Piece} {t : LineToken} {ts : List LineToken} → Follows (choices q).arrows t r → Leads r ts row s →
       Leads q (t ∷ ts) (piece_in q t ∷ row) s
-  by_phrase : {q r s : State} {h : Phrase} {e : Tree} {row : List Piece} {first t : LineToken} (others : List LineToken) {ts : List LineToken} →
+  by_phrase : {q r s : LineState} {h : Phrase} {e : Tree} {row : List Piece} {first t : LineToken} (others : List LineToken) {ts : List LineToken} →
       (choices q).phrase ≡ Some h → IsExpression h.setting e (terms (first ∷ others)) → height e ≤ greatest_height →
       Follows (behind h (first ∷ others)) t r → Leads r ts row s → Leads q ((first ∷ others) ++ t ∷ ts) (tree e first.place ∷ piece t ∷ row) s
 
@@ -82,12 +82,12 @@ pub record IsTooHigh (h : Phrase) (ts : List LineToken) : Type 0 where
   pub high : heights.IsTooHigh h.setting greatest_height (terms front)
 
 -- among these tokens an expression begins that is too high
-pub record HasTooHigh (q : State) (ts : List LineToken) : Type 0 where
+pub record HasTooHigh (q : LineState) (ts : List LineToken) : Type 0 where
   pub before : List LineToken
   pub after : List LineToken
   pub split : ts ≡ before ++ after
   pub row : List Piece
-  pub at : State
+  pub at : LineState
   pub leads : Leads q before row at
   pub phrase : Phrase
   pub expects : (choices at).phrase ≡ Some phrase
@@ -105,10 +105,10 @@ pub data Outcome : Type 0 where
   refused : ℕ → Place → Outcome
 
 -- Reading these tokens as a line from a state on answers so.
-pub data Reads (q : State) (ts : List LineToken) : Outcome → Type 0 where
+pub data Reads (q : LineState) (ts : List LineToken) : Outcome → Type 0 where
   line : {row : List Piece} {us rest : List LineToken} → ts ≡ us ++ rest → Leads q us row state.End → Reads q ts (read row rest)
   -- the first expression, or action, that is too high is refused at its first token
-  too_high : {row : List Piece} {us vs : List LineToken} {t : LineToken} {r : State} {h : Phrase} → ts ≡ us ++ t ∷ vs → Leads q us row r →
+  too_high : {row : List Piece} {us vs : List LineToken} {t : LineToken} {r : LineState} {h : Phrase} → ts ≡ us ++ t ∷ vs → Leads q us row r →
       (choices r).phrase ≡ Some h → IsTooHigh h (t ∷ vs) → Reads q ts (refused (refusal_number TooNested) t.place)
   -- the first token with which the tokens up to it begin no line, where those before it are no line
   stopped : {us : List LineToken} (t : LineToken) (vs : List LineToken) → ts ≡ us ++ t ∷ vs → Begins q us → ((row : List Piece) → ¬ Row q row us) →
@@ -116,4 +116,4 @@ pub data Reads (q : State) (ts : List LineToken) : Outcome → Type 0 where
 
 -- tokens are read in one way
 abbrev pub OneReading : Type 0
-OneReading = (q : State) (ts : List LineToken) (o o' : Outcome) → Reads q ts o → Reads q ts o' → o ≡ o'
+OneReading = (q : LineState) (ts : List LineToken) (o o' : Outcome) → Reads q ts o → Reads q ts o' → o ≡ o'

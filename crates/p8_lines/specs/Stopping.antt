@@ -8,8 +8,8 @@ use Rattle.p8_tree.specs.Refusals.{refusal_number}
 use Rattle.p8_grammar.specs.Lexemes.{Setting}
 use Rattle.p8_expr.specs.Refusals.{refusal_of}
 use Rattle.p8_lexer.specs.Pieces.{Piece}
-use Rattle.p8_lines.specs.declared.state.State.{State}
-use Rattle.p8_lines.specs.declared.state.State.TheVariants as state
+use Rattle.p8_lines.specs.declared.state.LineState.{LineState}
+use Rattle.p8_lines.specs.declared.state.LineState.TheVariants as state
 use Rattle.p8_lines.specs.Diagram.{Phrase, choices}
 use Rattle.p8_lines.specs.Tokens.{LineToken, word, line_token, text_end, tokens_from}
 use Rattle.p8_lines.specs.Lines.{Row, Begins, Leads, IsTooHigh, HasTooHigh, number_of}
@@ -23,24 +23,24 @@ abbrev pub run : List ℕ → List lexer_token.Token → ℕ → ℕ → List Li
 run bytes tokens at n = take n (tokens_from bytes tokens at)
 
 -- The words that are refused by themselves are the same in the setting of a state's expression as in that of the line.
-abbrev pub FitsSetting : Setting → State → Type 0
+abbrev pub FitsSetting : Setting → LineState → Type 0
 FitsSetting s q = (h : Phrase) → (choices q).phrase ≡ Some h → (w : Word) → refusal_of h.setting w ≡ refusal_of s w
 
 -- Reading stops so at a state, in a line of this setting.
-pub data Stops (s : Setting) (q : State) (ts : List LineToken) : ℕ → Place → Type 0 where
+pub data Stops (s : Setting) (q : LineState) (ts : List LineToken) : ℕ → Place → Type 0 where
   too_high : {h : Phrase} {t : LineToken} {vs : List LineToken} → ts ≡ t ∷ vs → (choices q).phrase ≡ Some h → IsTooHigh h (t ∷ vs) →
       Stops s q ts (refusal_number TooNested) t.place
   stopped : {us : List LineToken} (t : LineToken) (vs : List LineToken) → ts ≡ us ++ t ∷ vs → Begins q us → ((row : List Piece) → ¬ Row q row us) →
       ¬ Begins q (us ++ t ∷ []) → ¬ HasTooHigh q us → Stops s q ts (number_of s (word t)) t.place
 
 -- the tokens of these numbers lead from one state to another
-pub record Goes (bytes : List ℕ) (tokens : List lexer_token.Token) (at end : ℕ) (q : State) (row : List Piece) (r : State) : Type 0 where
+pub record Goes (bytes : List ℕ) (tokens : List lexer_token.Token) (at end : ℕ) (q : LineState) (row : List Piece) (r : LineState) : Type 0 where
   pub taken : List LineToken
   pub split : tokens_from bytes tokens at ≡ taken ++ tokens_from bytes tokens end
   pub leads : Leads q taken row r
 
 -- they are read: their pieces stand after the others, and nothing but a line's end ends a text
-pub record Advances (bytes : List ℕ) (tokens : List lexer_token.Token) (at end : ℕ) (q : State) (old new : List Piece) (r : State) : Type 0 where
+pub record Advances (bytes : List ℕ) (tokens : List lexer_token.Token) (at end : ℕ) (q : LineState) (old new : List Piece) (r : LineState) : Type 0 where
   pub row : List Piece
   pub kept : new ≡ old ++ row
   pub goes : Goes bytes tokens at end q row r

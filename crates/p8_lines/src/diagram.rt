@@ -5,7 +5,7 @@ ghost use Rattle.p8_lines.specs.Diagram.{choices, setting_at, behind_in, behind_
 
 use crate::arrow::Arrow;
 use crate::sign::Sign;
-use crate::state::State;
+use crate::state::LineState;
 use p8_grammar::Setting;
 use p8_lexer::Word;
 
@@ -13,7 +13,7 @@ use p8_lexer::Word;
 // kind of words.
 macro_rules! arrows {
     ($($sign:tt => $to:ident),* $(,)?) => {
-        &[$(Arrow { sign: sign!($sign), to: State::$to }),*]
+        &[$(Arrow { sign: sign!($sign), to: LineState::$to }),*]
     };
 }
 
@@ -22,106 +22,110 @@ macro_rules! sign {
     ($word:ident) => { Sign::Word(Word::$word) };
 }
 
-impl State {
+impl LineState {
     /// The tokens that may stand next.
     pub fn arrows(self) -> &'static [Arrow]
         ensures { result.now ≡ (choices self).arrows }
     {
         match self {
             // The line has ended.
-            State::LineEnd => arrows![LineEnd => End],
+            LineState::LineEnd => arrows![LineEnd => End],
             // CON: items `name = e`, `#e`, `name` and `name[e]`, with commas between them.
-            State::ConHead => arrows![LineEnd => End, Name => ConName, Hash => ConValue],
-            State::ConItem => arrows![Name => ConName, Hash => ConValue],
-            State::ConName => arrows![
+            LineState::ConHead => arrows![LineEnd => End, Name => ConName, Hash => ConValue],
+            LineState::ConItem => arrows![Name => ConName, Hash => ConValue],
+            LineState::ConName => arrows![
                 EqualSign => ConValue, LeftBracket => ConStep, Comma => ConItem, LineEnd => End,
             ],
-            State::ConMore => arrows![Comma => ConItem, LineEnd => End],
+            LineState::ConMore => arrows![Comma => ConItem, LineEnd => End],
             // VAR: a size and names with counts in brackets, with commas between them.
-            State::VarHead => arrows![LineEnd => End, [Size] => VarName],
-            State::VarLine => arrows![[Size] => VarName],
-            State::VarName => arrows![Name => VarNamed],
-            State::VarNamed => arrows![LeftBracket => VarCount, Comma => VarName, LineEnd => End],
-            State::VarMore => arrows![Comma => VarName, LineEnd => End],
+            LineState::VarHead => arrows![LineEnd => End, [Size] => VarName],
+            LineState::VarLine => arrows![[Size] => VarName],
+            LineState::VarName => arrows![Name => VarNamed],
+            LineState::VarNamed =>
+                arrows![LeftBracket => VarCount, Comma => VarName, LineEnd => End],
+            LineState::VarMore => arrows![Comma => VarName, LineEnd => End],
             // OBJ: `name : "file"` or `name[e] : "file"`.
-            State::ObjHead => arrows![LineEnd => End, Name => ObjNamed],
-            State::ObjLine => arrows![Name => ObjNamed],
-            State::ObjNamed => arrows![LeftBracket => ObjCount, Colon => ObjFile],
-            State::ObjColon => arrows![Colon => ObjFile],
-            State::ObjFile => arrows![[Text] => LineEnd],
+            LineState::ObjHead => arrows![LineEnd => End, Name => ObjNamed],
+            LineState::ObjLine => arrows![Name => ObjNamed],
+            LineState::ObjNamed => arrows![LeftBracket => ObjCount, Colon => ObjFile],
+            LineState::ObjColon => arrows![Colon => ObjFile],
+            LineState::ObjFile => arrows![[Text] => LineEnd],
             // PUB and PRI: a name, parameters in parentheses, `: name` for the result and `| name, name[e]` for locals.
-            State::MethodName => arrows![Name => MethodNamed],
-            State::MethodNamed => arrows![
+            LineState::MethodName => arrows![Name => MethodNamed],
+            LineState::MethodNamed => arrows![
                 LeftParenthesis => Parameter, Colon => ResultName, BitOr => Local, LineEnd => End,
             ],
-            State::Parameter => arrows![Name => MoreParameters],
-            State::MoreParameters => arrows![Comma => Parameter, RightParenthesis => Parameters],
-            State::Parameters => arrows![Colon => ResultName, BitOr => Local, LineEnd => End],
-            State::ResultName => arrows![Name => ResultNamed],
-            State::ResultNamed => arrows![BitOr => Local, LineEnd => End],
-            State::Local => arrows![Name => LocalNamed],
-            State::LocalNamed => arrows![LeftBracket => LocalCount, Comma => Local, LineEnd => End],
-            State::MoreLocals => arrows![Comma => Local, LineEnd => End],
+            LineState::Parameter => arrows![Name => MoreParameters],
+            LineState::MoreParameters =>
+                arrows![Comma => Parameter, RightParenthesis => Parameters],
+            LineState::Parameters => arrows![Colon => ResultName, BitOr => Local, LineEnd => End],
+            LineState::ResultName => arrows![Name => ResultNamed],
+            LineState::ResultNamed => arrows![BitOr => Local, LineEnd => End],
+            LineState::Local => arrows![Name => LocalNamed],
+            LineState::LocalNamed =>
+                arrows![LeftBracket => LocalCount, Comma => Local, LineEnd => End],
+            LineState::MoreLocals => arrows![Comma => Local, LineEnd => End],
             // DAT: an optional label, then data, ORG, RES, FIT or an instruction.
-            State::DatHead => arrows![
+            LineState::DatHead => arrows![
                 LineEnd => End, Name => DatBody, Colon => DatLabel, [Size] => FirstData,
                 Org => DatValue, Res => DatValue, Fit => DatValue, [Condition] => Conditioned,
                 [TwoOperands] => Destination, [Memory] => MemoryDestination,
                 [OneOperand] => OnlyDestination, Jmp => Source, Call => CallHash, Ret => Effects,
                 Nop => LineEnd,
             ],
-            State::DatLine => arrows![
+            LineState::DatLine => arrows![
                 Name => DatBody, Colon => DatLabel, [Size] => FirstData, Org => DatValue,
                 Res => DatValue, Fit => DatValue, [Condition] => Conditioned,
                 [TwoOperands] => Destination, [Memory] => MemoryDestination,
                 [OneOperand] => OnlyDestination, Jmp => Source, Call => CallHash, Ret => Effects,
                 Nop => LineEnd,
             ],
-            State::DatLabel => arrows![[Label] => DatBody],
-            State::DatBody => arrows![
+            LineState::DatLabel => arrows![[Label] => DatBody],
+            LineState::DatBody => arrows![
                 LineEnd => End, [Size] => FirstData, Org => DatValue, Res => DatValue,
                 Fit => DatValue, [Condition] => Conditioned, [TwoOperands] => Destination,
                 [Memory] => MemoryDestination, [OneOperand] => OnlyDestination, Jmp => Source,
                 Call => CallHash, Ret => Effects, Nop => LineEnd,
             ],
-            State::DatValue => arrows![LineEnd => End],
-            State::FirstData => arrows![
+            LineState::DatValue => arrows![LineEnd => End],
+            LineState::FirstData => arrows![
                 LineEnd => End, [Size] => DataValue, [LongText] => MoreData,
             ],
-            State::Data => arrows![[Size] => DataValue, [LongText] => MoreData],
-            State::DataValue => arrows![[LongText] => MoreData],
-            State::MoreData => arrows![Comma => Data, LineEnd => End],
-            State::Conditioned => arrows![
+            LineState::Data => arrows![[Size] => DataValue, [LongText] => MoreData],
+            LineState::DataValue => arrows![[LongText] => MoreData],
+            LineState::MoreData => arrows![Comma => Data, LineEnd => End],
+            LineState::Conditioned => arrows![
                 [TwoOperands] => Destination, [Memory] => MemoryDestination,
                 [OneOperand] => OnlyDestination, Jmp => Source, Call => CallHash, Ret => Effects,
                 Nop => LineEnd,
             ],
-            State::Source => arrows![Hash => SourceValue],
-            State::MemorySource => arrows![Hash => MemorySourceValue],
-            State::CallHash => arrows![Hash => CallLabel],
-            State::CallLabel => arrows![Name => Effects, Colon => CallLocal],
-            State::CallLocal => arrows![[Label] => Effects],
-            State::Effects => arrows![
+            LineState::Source => arrows![Hash => SourceValue],
+            LineState::MemorySource => arrows![Hash => MemorySourceValue],
+            LineState::CallHash => arrows![Hash => CallLabel],
+            LineState::CallLabel => arrows![Name => Effects, Colon => CallLocal],
+            LineState::CallLocal => arrows![[Label] => Effects],
+            LineState::Effects => arrows![
                 [Flag] => MoreEffects, [Write] => MoreEffects, LineEnd => End,
             ],
-            State::MoreEffects => arrows![
+            LineState::MoreEffects => arrows![
                 [Flag] => MoreEffects, [Write] => MoreEffects, Comma => Effect, LineEnd => End,
             ],
-            State::Effect => arrows![[Flag] => MoreEffects, [Write] => MoreEffects],
-            State::MoreFlags => arrows![[Flag] => MoreFlags, Comma => FlagEffect, LineEnd => End],
-            State::FlagEffect => arrows![[Flag] => MoreFlags],
+            LineState::Effect => arrows![[Flag] => MoreEffects, [Write] => MoreEffects],
+            LineState::MoreFlags =>
+                arrows![[Flag] => MoreFlags, Comma => FlagEffect, LineEnd => End],
+            LineState::FlagEffect => arrows![[Flag] => MoreFlags],
             // Statements: an action is none of these words.
-            State::Statement => arrows![
+            LineState::Statement => arrows![
                 If => LastValue, Ifnot => LastValue, Case => LastValue, Repeat => Repeat, Next => LineEnd,
                 Quit => LineEnd, Return => MaybeValue, Abort => MaybeValue,
             ],
-            State::ChainLine =>
+            LineState::ChainLine =>
                 arrows![Else => LineEnd, Elseif => LastValue, Elseifnot => LastValue],
-            State::LoopEndLine => arrows![While => LastValue, Until => LastValue],
-            State::Repeat => arrows![LineEnd => End, While => LastValue, Until => LastValue],
-            State::MaybeValue => arrows![LineEnd => End],
-            State::CaseItem => arrows![Other => OtherColon],
-            State::OtherColon => arrows![Colon => End],
+            LineState::LoopEndLine => arrows![While => LastValue, Until => LastValue],
+            LineState::Repeat => arrows![LineEnd => End, While => LastValue, Until => LastValue],
+            LineState::MaybeValue => arrows![LineEnd => End],
+            LineState::CaseItem => arrows![Other => OtherColon],
+            LineState::OtherColon => arrows![Colon => End],
             _ => &[],
         }
     }
@@ -131,29 +135,30 @@ impl State {
         ensures { option_map setting_of result ≡ option_map (λ h. h.setting) (choices self).phrase }
     {
         match self {
-            State::ConValue | State::ConStep | State::VarCount | State::ObjCount => Some(
-                Setting::Declaration,
+            LineState::ConValue | LineState::ConStep | LineState::VarCount | LineState::ObjCount =>
+                Some(Setting::Declaration),
+            LineState::LocalCount
+            | LineState::LastValue
+            | LineState::Repeat
+            | LineState::From
+            | LineState::To
+            | LineState::MaybeValue
+            | LineState::CaseItem
+            | LineState::CaseTest
+            | LineState::CaseRange => Some(Setting::Method),
+            LineState::Statement => Some(Setting::Action),
+            LineState::DatValue
+            | LineState::DataCount
+            | LineState::Destination
+            | LineState::Source
+            | LineState::SourceValue
+            | LineState::MemoryDestination
+            | LineState::MemorySource
+            | LineState::MemorySourceValue
+            | LineState::OnlyDestination => Some(Setting::Dat),
+            LineState::FirstData | LineState::Data | LineState::DataValue => Some(
+                Setting::DataItem,
             ),
-            State::LocalCount
-            | State::LastValue
-            | State::Repeat
-            | State::From
-            | State::To
-            | State::MaybeValue
-            | State::CaseItem
-            | State::CaseTest
-            | State::CaseRange => Some(Setting::Method),
-            State::Statement => Some(Setting::Action),
-            State::DatValue
-            | State::DataCount
-            | State::Destination
-            | State::Source
-            | State::SourceValue
-            | State::MemoryDestination
-            | State::MemorySource
-            | State::MemorySourceValue
-            | State::OnlyDestination => Some(Setting::Dat),
-            State::FirstData | State::Data | State::DataValue => Some(Setting::DataItem),
             _ => None,
         }
     }
@@ -163,30 +168,30 @@ impl State {
         ensures { result.now ≡ behind_in (choices self).phrase }
     {
         match self {
-            State::ConValue => arrows![Comma => ConItem, LineEnd => End],
-            State::ConStep => arrows![RightBracket => ConMore],
-            State::VarCount => arrows![RightBracket => VarMore],
-            State::ObjCount => arrows![RightBracket => ObjColon],
-            State::LocalCount => arrows![RightBracket => MoreLocals],
-            State::DatValue
-            | State::Statement
-            | State::LastValue
-            | State::Repeat
-            | State::MaybeValue => arrows![LineEnd => End],
-            State::FirstData | State::Data | State::DataValue =>
+            LineState::ConValue => arrows![Comma => ConItem, LineEnd => End],
+            LineState::ConStep => arrows![RightBracket => ConMore],
+            LineState::VarCount => arrows![RightBracket => VarMore],
+            LineState::ObjCount => arrows![RightBracket => ObjColon],
+            LineState::LocalCount => arrows![RightBracket => MoreLocals],
+            LineState::DatValue
+            | LineState::Statement
+            | LineState::LastValue
+            | LineState::Repeat
+            | LineState::MaybeValue => arrows![LineEnd => End],
+            LineState::FirstData | LineState::Data | LineState::DataValue =>
                 arrows![LeftBracket => DataCount, Comma => Data, LineEnd => End],
-            State::DataCount => arrows![RightBracket => MoreData],
-            State::Destination => arrows![Comma => Source],
-            State::Source | State::SourceValue | State::OnlyDestination =>
+            LineState::DataCount => arrows![RightBracket => MoreData],
+            LineState::Destination => arrows![Comma => Source],
+            LineState::Source | LineState::SourceValue | LineState::OnlyDestination =>
                 arrows![[Flag] => MoreEffects, [Write] => MoreEffects, LineEnd => End],
-            State::MemoryDestination => arrows![Comma => MemorySource],
-            State::MemorySource | State::MemorySourceValue =>
+            LineState::MemoryDestination => arrows![Comma => MemorySource],
+            LineState::MemorySource | LineState::MemorySourceValue =>
                 arrows![[Flag] => MoreFlags, LineEnd => End],
-            State::From => arrows![To => To],
-            State::To => arrows![Step => LastValue, LineEnd => End],
-            State::CaseItem | State::CaseTest =>
+            LineState::From => arrows![To => To],
+            LineState::To => arrows![Step => LastValue, LineEnd => End],
+            LineState::CaseItem | LineState::CaseTest =>
                 arrows![DotDot => CaseRange, Comma => CaseTest, Colon => End],
-            State::CaseRange => arrows![Comma => CaseTest, Colon => End],
+            LineState::CaseRange => arrows![Comma => CaseTest, Colon => End],
             _ => &[],
         }
     }
@@ -196,7 +201,7 @@ impl State {
         ensures { result.now ≡ behind_name_in (choices self).phrase }
     {
         match self {
-            State::Repeat => arrows![LineEnd => End, From => From],
+            LineState::Repeat => arrows![LineEnd => End, From => From],
             _ => self.behind(),
         }
     }
@@ -206,50 +211,50 @@ impl State {
         ensures { setting_of result ≡ setting_at self }
     {
         match self {
-            State::ConHead
-            | State::ConItem
-            | State::ConName
-            | State::ConValue
-            | State::ConStep
-            | State::ConMore
-            | State::VarHead
-            | State::VarLine
-            | State::VarName
-            | State::VarNamed
-            | State::VarCount
-            | State::VarMore
-            | State::ObjHead
-            | State::ObjLine
-            | State::ObjNamed
-            | State::ObjCount
-            | State::ObjColon
-            | State::ObjFile => Setting::Declaration,
-            State::DatHead
-            | State::DatLine
-            | State::DatLabel
-            | State::DatBody
-            | State::DatValue
-            | State::FirstData
-            | State::Data
-            | State::DataValue
-            | State::DataCount
-            | State::MoreData
-            | State::Conditioned
-            | State::Destination
-            | State::Source
-            | State::SourceValue
-            | State::MemoryDestination
-            | State::MemorySource
-            | State::MemorySourceValue
-            | State::OnlyDestination
-            | State::CallHash
-            | State::CallLabel
-            | State::CallLocal
-            | State::Effects
-            | State::MoreEffects
-            | State::Effect
-            | State::MoreFlags
-            | State::FlagEffect => Setting::Dat,
+            LineState::ConHead
+            | LineState::ConItem
+            | LineState::ConName
+            | LineState::ConValue
+            | LineState::ConStep
+            | LineState::ConMore
+            | LineState::VarHead
+            | LineState::VarLine
+            | LineState::VarName
+            | LineState::VarNamed
+            | LineState::VarCount
+            | LineState::VarMore
+            | LineState::ObjHead
+            | LineState::ObjLine
+            | LineState::ObjNamed
+            | LineState::ObjCount
+            | LineState::ObjColon
+            | LineState::ObjFile => Setting::Declaration,
+            LineState::DatHead
+            | LineState::DatLine
+            | LineState::DatLabel
+            | LineState::DatBody
+            | LineState::DatValue
+            | LineState::FirstData
+            | LineState::Data
+            | LineState::DataValue
+            | LineState::DataCount
+            | LineState::MoreData
+            | LineState::Conditioned
+            | LineState::Destination
+            | LineState::Source
+            | LineState::SourceValue
+            | LineState::MemoryDestination
+            | LineState::MemorySource
+            | LineState::MemorySourceValue
+            | LineState::OnlyDestination
+            | LineState::CallHash
+            | LineState::CallLabel
+            | LineState::CallLocal
+            | LineState::Effects
+            | LineState::MoreEffects
+            | LineState::Effect
+            | LineState::MoreFlags
+            | LineState::FlagEffect => Setting::Dat,
             _ => Setting::Method,
         }
     }

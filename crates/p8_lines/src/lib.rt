@@ -11,4 +11,4 @@ mod words;
 pub use arrow::Arrow;
 pub use reading::{one_reading, read_line};
 pub use sign::Sign;
-pub use state::State;
+pub use state::LineState;

@@ -7,8 +7,8 @@ ghost use Rattle.p8_grammar.specs.Lexemes.{name_in};
 ghost use Rattle.p8_grammar.specs.Views.{setting_of, lexeme_of};
 ghost use Rattle.p8_expr.specs.Parsing.{tree, Parses};
 ghost use Rattle.p8_lexer.specs.Pieces.{piece_of, pieces_of};
-ghost use Rattle.p8_lines.specs.declared.state.State as line_state;
-ghost use Rattle.p8_lines.specs.declared.state.State.TheVariants as state_case;
+ghost use Rattle.p8_lines.specs.declared.state.LineState as line_state;
+ghost use Rattle.p8_lines.specs.declared.state.LineState.TheVariants as state_case;
 ghost use Rattle.p8_lines.specs.Diagram.{Phrase, choices};
 ghost use Rattle.p8_lines.specs.Tokens as line_tokens;
 ghost use Rattle.p8_lines.specs.Tokens.{LineToken, string_length, piece, piece_from, label_piece, line_token, text_end, tokens_from};
@@ -16,7 +16,7 @@ ghost use Rattle.p8_lines.specs.Lines.{Follows, is_name_word, behind, piece_in, 
 ghost use Rattle.p8_lines.specs.Stopping.{token_at, run, FitsSetting, Stops, Advances};
 
 use crate::arrow::Arrow;
-use crate::state::State;
+use crate::state::LineState;
 use p8_expr::{GREATEST_HEIGHT, lexeme, parse_expr_in, refusal_of};
 use p8_grammar::{Lexeme, Setting, Term};
 use p8_lexer::{Characters, Piece, Tokens, Word, word_of};
@@ -34,7 +34,7 @@ pub fn one_reading()
 /// Reads a line, or what is left of one, from a state of the diagram and from the token of this
 /// number on: gives its pieces and the number of the token after it.
 ///
-/// The state says what may stand there, as [`State::ConHead`] after the word `CON`. The text's end
+/// The state says what may stand there, as [`LineState::ConHead`] after the word `CON`. The text's end
 /// counts as the end of a line: `at` may be the number of tokens, and the number after that end is
 /// one more.
 ///
@@ -48,7 +48,7 @@ pub fn read_line(
     bytes: &[u8],
     tokens: &Tokens,
     at: usize,
-    state: State,
+    state: LineState,
 ) -> Result<(Vec<Piece>, usize), Fail<Fault>>
     requires { at ≤ length tokens.now }
     ensures within { IfOk result (λ r. r.1 ≤ length tokens.now + 1) }
@@ -69,10 +69,10 @@ pub fn read_line(
 }
 
 // Whether the line has ended.
-fn is_end(state: State) -> bool
+fn is_end(state: LineState) -> bool
     ensures { IsTrue result ↔ (state ≡ state_case.End) }
 {
-    matches!(state, State::End)
+    matches!(state, LineState::End)
 }
 
 // Reads the next token, where it may stand at a state, or else an expression with the token after
@@ -82,10 +82,10 @@ fn step(
     bytes: &[u8],
     tokens: &Tokens,
     at: usize,
-    state: State,
+    state: LineState,
     line: Setting,
     pieces: &mut Vec<Piece>,
-) -> Result<(State, usize), Fail<Fault>>
+) -> Result<(LineState, usize), Fail<Fault>>
     requires within { at ≤ length tokens.now }
     requires unended { state ≢ state_case.End }
     requires fits { FitsSetting (setting_of line) state }
@@ -106,14 +106,14 @@ fn step_over_tree(
     bytes: &[u8],
     tokens: &Tokens,
     at: usize,
-    state: State,
+    state: LineState,
     line: Setting,
     pieces: &mut Vec<Piece>,
-) -> Result<(State, usize), Fail<Fault>>
+) -> Result<(LineState, usize), Fail<Fault>>
     requires within { at ≤ length tokens.now }
     requires unended { state ≢ state_case.End }
     requires fits { FitsSetting (setting_of line) state }
-    requires alone { (r : line_state.State) → ¬ Follows (choices state).arrows (token_at bytes.now tokens.now at) r }
+    requires alone { (r : line_state.LineState) → ¬ Follows (choices state).arrows (token_at bytes.now tokens.now at) r }
     ensures advances { IfOk result (λ r. Advances bytes.now tokens.now at r.1 state (pieces_of pieces.old.items) (pieces_of pieces.new.items) r.0) }
     ensures stops { IfErr result (IfRefused (λ fault. Stops (setting_of line) state (tokens_from bytes.now tokens.now at) fault.number fault.place)) }
 {
@@ -144,13 +144,13 @@ fn read_tree(
     bytes: &[u8],
     tokens: &Tokens,
     at: usize,
-    state: State,
+    state: LineState,
     setting: Setting,
     line: Setting,
 ) -> Result<(Expr, usize), Fail<Fault>>
     requires within { at < length tokens.now }
     requires fits { FitsSetting (setting_of line) state }
-    requires alone { (r : line_state.State) → ¬ Follows (choices state).arrows (token_at bytes.now tokens.now at) r }
+    requires alone { (r : line_state.LineState) → ¬ Follows (choices state).arrows (token_at bytes.now tokens.now at) r }
     requires expects { option_map (λ h. h.setting) (choices state).phrase ≡ Some (setting_of setting) }
     ensures ordered { IfOk result (λ r. at ≤ r.1) }
     ensures within { IfOk result (λ r. r.1 ≤ length tokens.now) }
@@ -171,7 +171,7 @@ fn arrows_behind(
     tokens: &Tokens,
     at: usize,
     end: usize,
-    state: State,
+    state: LineState,
 ) -> &'static [Arrow]
     requires ordered { at ≤ end }
     requires within { end ≤ length tokens.now }
@@ -192,9 +192,9 @@ fn is_name(word: Word) -> bool
 }
 
 // Where the token of this number leads.
-fn target(bytes: &[u8], tokens: &Tokens, at: usize, arrows: &[Arrow]) -> Option<State>
+fn target(bytes: &[u8], tokens: &Tokens, at: usize, arrows: &[Arrow]) -> Option<LineState>
     ensures { MatchOption result
-        ((r : line_state.State) → ¬ Follows arrows.now (token_at bytes.now tokens.now at) r)
+        ((r : line_state.LineState) → ¬ Follows arrows.now (token_at bytes.now tokens.now at) r)
         (Follows arrows.now (token_at bytes.now tokens.now at)) }
 {
     first_target(
@@ -205,9 +205,9 @@ fn target(bytes: &[u8], tokens: &Tokens, at: usize, arrows: &[Arrow]) -> Option<
 }
 
 // Where a token with this word, and with so many characters between its quotes, leads.
-fn first_target(arrows: &[Arrow], word: Word, length: usize) -> Option<State>
+fn first_target(arrows: &[Arrow], word: Word, length: usize) -> Option<LineState>
     ensures { (t : LineToken) → line_tokens.word t ≡ word → string_length t ≡ length → MatchOption result
-        ((r : line_state.State) → ¬ Follows arrows.now t r)
+        ((r : line_state.LineState) → ¬ Follows arrows.now t r)
         (Follows arrows.now t) }
 {
     for arrow in arrows {
@@ -275,13 +275,13 @@ fn piece_in(
     bytes: &[u8],
     tokens: &Tokens,
     at: usize,
-    state: State,
+    state: LineState,
 ) -> Result<Piece, NoMemory>
     ensures { IfOk result (λ p. piece_of p ≡ piece_in state (token_at bytes.now tokens.now at)) }
 {
     match state {
-        State::DatLabel => label_at(alloc, bytes, tokens, at),
-        State::CallLocal => label_at(alloc, bytes, tokens, at),
+        LineState::DatLabel => label_at(alloc, bytes, tokens, at),
+        LineState::CallLocal => label_at(alloc, bytes, tokens, at),
         _ => piece_at(alloc, bytes, tokens, at),
     }
 }

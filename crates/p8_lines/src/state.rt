@@ -2,9 +2,9 @@
 
 /// A state of the diagram of lines: what has been read of a line, and so what may stand next.
 ///
-/// Each is named by what stands there. [`State::arrows`] and [`State::behind`] are the diagram.
+/// Each is named by what stands there. [`LineState::arrows`] and [`LineState::behind`] are the diagram.
 #[derive(Clone, Copy)]
-pub enum State {
+pub enum LineState {
     // The line has ended.
     /// Nothing more belongs to the line.
     End,

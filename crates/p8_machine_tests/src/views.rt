@@ -17,7 +17,7 @@ use std::test::Fail;
 
 /// What is shown of a run, and its limits.
 #[derive(Clone, Copy)]
-struct Row {
+struct ShownRun {
     clocks: u64,
     turns: u64,
     cog: Option<u8>,
@@ -28,7 +28,7 @@ struct Row {
 }
 
 /// All turns of a run below clock 90,000.
-const ALL: Row = Row {
+const ALL: ShownRun = ShownRun {
     clocks: 90_000,
     turns: 2000,
     cog: None,
@@ -39,7 +39,7 @@ const ALL: Row = Row {
 };
 
 /// No turn of a run below clock 10,000.
-const NONE: Row = Row {
+const NONE: ShownRun = ShownRun {
     clocks: 10_000,
     turns: 2000,
     cog: None,
@@ -50,7 +50,7 @@ const NONE: Row = Row {
 };
 
 /// The view of a run, with the long at $0054.
-fn seen(alloc: Global, boot: Boot, legend: &Legend, row: &Row) -> Result<Vec<u8>, NoMemory>
+fn seen(alloc: Global, boot: Boot, legend: &Legend, row: &ShownRun) -> Result<Vec<u8>, NoMemory>
     requires { IsProperOrigin boot.first }
 {
     let limits = Limits {
@@ -77,31 +77,31 @@ fn seen(alloc: Global, boot: Boot, legend: &Legend, row: &Row) -> Result<Vec<u8>
 }
 
 /// A range with its name, with its place in a source, or with what its bytecode names in a frame.
-type Told = (u16, u16, &'static [u8]);
+type RangeText = (u16, u16, &'static [u8]);
 
 /// The names of the Spin program: two of its methods, and the parameter of the one that the second cog runs.
-static NAMES: [Told; 3] = [
+static NAMES: [RangeText; 3] = [
     (0x1C, 0x23, b"main"),
     (0x3A, 0x50, b"blink"),
     (0x54, 0x58, b"pin"),
 ];
 
 /// A place for all of each method.
-static PLACES: [Told; 3] = [
+static PLACES: [RangeText; 3] = [
     (0x1C, 0x23, b"top.spin:3 main"),
     (0x30, 0x3A, b"led.spin:6 start"),
     (0x3A, 0x50, b"led.spin:9 blink"),
 ];
 
 /// What three bytecodes name in the frames of their methods: the parameter that `start` stores, its result, and nothing that is told.
-static LOCALS: [Told; 3] = [
+static LOCALS: [RangeText; 3] = [
     (0x31, 0x32, b"start.p"),
     (0x38, 0x39, b"start.result"),
     (0x3A, 0x3B, b""),
 ];
 
 /// Puts these texts with their ranges.
-fn put(alloc: Global, ranges: &mut Ranges, all: &[Told]) -> Result<(), NoMemory> {
+fn put(alloc: Global, ranges: &mut Ranges, all: &[RangeText]) -> Result<(), NoMemory> {
     for (address, end, text) in all {
         let range = Range {
             address: *address,
@@ -121,7 +121,7 @@ fn legend_of_blink(alloc: Global) -> Result<Legend, NoMemory> {
 }
 
 /// Whether the view of the Spin program is this.
-fn shows(alloc: Global, row: &Row, expected: &[u8]) -> Result<bool, NoMemory> {
+fn shows(alloc: Global, row: &ShownRun, expected: &[u8]) -> Result<bool, NoMemory> {
     let legend = legend_of_blink(alloc)?;
     let text = seen(alloc, boot_of_blink(alloc)?, &legend, row)?;
     Ok(text.as_slice() == expected)
@@ -129,7 +129,7 @@ fn shows(alloc: Global, row: &Row, expected: &[u8]) -> Result<bool, NoMemory> {
 
 /// At 80 MHz a clock lasts 12.5 ns. The counter is read at clock 17,595, so that bytecode begins at 17,561; an addition takes 32 clocks, and
 /// a wait may end 36 clocks after its bytecode's begin. Each filter lets the turn at its first clock through, and not that at its last one.
-static BLINKING: [(Row, &[u8]); 5] = [
+static BLINKING: [(ShownRun, &[u8]); 5] = [
     (
         ALL,
         b"16 0.200 us cog 0 begin of spin main 0078\n\
@@ -155,7 +155,7 @@ static BLINKING: [(Row, &[u8]); 5] = [
         17 turns are made, the last at clock 17595\nno cog makes another before clock 90000\n0054: 04 00 00 00\n",
     ),
     (
-        Row {
+        ShownRun {
             from: 16_828,
             to: 16_908,
             ..ALL
@@ -168,7 +168,7 @@ static BLINKING: [(Row, &[u8]); 5] = [
         17 turns are made, the last at clock 17595\nno cog makes another before clock 90000\n0054: 04 00 00 00\n",
     ),
     (
-        Row {
+        ShownRun {
             pins_only: true,
             ..ALL
         },
@@ -180,7 +180,7 @@ static BLINKING: [(Row, &[u8]); 5] = [
         17 turns are made, the last at clock 17595\nno cog makes another before clock 90000\n0054: 04 00 00 00\n",
     ),
     (
-        Row {
+        ShownRun {
             turns: 5,
             quiet: true,
             ..ALL
@@ -190,7 +190,7 @@ static BLINKING: [(Row, &[u8]); 5] = [
         5 turns are made, the last at clock 8432\nno more are asked for; --turns gives more\n0054: 00 00 00 00\n",
     ),
     (
-        Row {
+        ShownRun {
             turns: 7,
             cog: Some(1),
             ..ALL
@@ -214,9 +214,9 @@ fn a_spin_program_with_its_names(rt: HostRuntime) -> Result<(), Fail> {
 /// Whether the view of a raw program, of which these lines of DAT are known and no name, begins so.
 fn begins(
     alloc: Global,
-    row: &Row,
+    row: &ShownRun,
     program: &[u8],
-    lines: &[Told],
+    lines: &[RangeText],
     expected: &[u8],
 ) -> Result<bool, NoMemory>
     requires { length program.now ≤ 32768 }
@@ -247,7 +247,7 @@ fn a_cog_wakes_another(rt: HostRuntime) -> Result<(), Fail> {
 }
 
 /// The lines of its instructions; cog 1 is loaded from $0014 on.
-static WAKING_LINES: [Told; 7] = [
+static WAKING_LINES: [RangeText; 7] = [
     (0x00, 0x04, b"wake.spin:3"),
     (0x04, 0x08, b"wake.spin:4"),
     (0x08, 0x0C, b"wake.spin:5"),
@@ -289,7 +289,7 @@ const CHANGING: [u8; 20] = [
     0x01, 0xF0, 0xFF, 0xA0,
 ];
 
-static CHANGING_LINES: [Told; 5] = [
+static CHANGING_LINES: [RangeText; 5] = [
     (0x00, 0x04, b"code.spin:2"),
     (0x04, 0x08, b"code.spin:3"),
     (0x08, 0x0C, b"code.spin:4"),
@@ -361,7 +361,7 @@ const WAITING_LINE: &[u8] =
 
 #[test]
 fn where_a_cog_waits(rt: HostRuntime) -> Result<(), Fail> {
-    let lines: [Told; 2] = [(0x00, 0x04, b"wait.spin:2"), (0x04, 0x08, b"wait.spin:3")];
+    let lines: [RangeText; 2] = [(0x00, 0x04, b"wait.spin:2"), (0x04, 0x08, b"wait.spin:3")];
     let (program, _) = &WAITING[3];
     assert!(rt;
         matches!(

@@ -2,10 +2,10 @@
 #![tactic(auto)]
 
 mod asked;
-mod places;
+mod searched_places;
 
 use crate::asked::AskedShelf;
-use crate::places::tell_places;
+use crate::searched_places::tell_places;
 use p8_crew::ThreadStarter;
 use p8_inputs::Stop;
 use p8_io::{FileShelf, StdSink};

@@ -5,7 +5,7 @@ use Rattle.p8_image.specs.declared.parts.ObjectPart.{ObjectPart}
 use Rattle.p8_image.specs.Layout.{own_variables}
 use Rattle.p8_map.specs.declared.instances.Instance.{Instance}
 use Rattle.p8_map.specs.declared.names.FileNames.{FileNames}
-use Rattle.p8_image.specs.Listing.{further}
+use Rattle.p8_image.specs.Listing.{address_after}
 use Rattle.p8_map.specs.Map.{all_inside, instances_within, own_instance, with_inside}
 
 one-deeper : (files : List FileNames) (objects : List ObjectPart) (sizes : List ℕ) (depth : ℕ) (prefix : List ℕ) (f place : ℕ) → 1 ≤ depth
@@ -53,7 +53,7 @@ no_object files objects sizes depth prefix f place all some none =
 -- an instance, itself first and then those inside it
 pub whole_instance : (files : List FileNames) (objects : List ObjectPart) (sizes : List ℕ) (depth : ℕ) (prefix : List ℕ) (f place : ℕ) (names : FileNames) (object : ObjectPart)
     (all own : List Instance) (inside : ℕ) → 1 ≤ depth → slice_get files f ≡ Some names → slice_get objects f ≡ Some object
-    → inside ≡ further place (own_variables object)
+    → inside ≡ address_after place (own_variables object)
     → own ≡ all ++ own_instance prefix f place object.variables
     → own ++ all_inside (instances_within files objects sizes (depth - 1)) sizes inside prefix names.instances object.instances
     ≡ all ++ instances_within files objects sizes depth prefix f place
@@ -63,5 +63,5 @@ whole_instance files objects sizes depth prefix f place names object all own ins
     one-deeper files objects sizes depth prefix f place some
     ∙ ap₂ (λ (n : Option FileNames) (o : Option ObjectPart). with_inside within sizes prefix f place n o) has_names has_object in
     ap₂ (λ (first : List Instance) (p : ℕ). first ++ all_inside within sizes p prefix names.instances object.instances) own_is inside_is
-    ∙ append_assoc all (own_instance prefix f place object.variables) (all_inside within sizes (further place (own_variables object)) prefix names.instances object.instances)
+    ∙ append_assoc all (own_instance prefix f place object.variables) (all_inside within sizes (address_after place (own_variables object)) prefix names.instances object.instances)
     ∙ ap (λ (more : List Instance). all ++ more) (sym opened)

@@ -2,14 +2,14 @@
 use Rattle.std.proofs.Common.{◌≡◌, ◌∙◌, ap, ap₂, sym, refl, arith, ℕ, zero, suc, ◌+◌, ◌%◌, List, [], ◌∷◌, length, map, replicate, slice_index, add-one}
 use Rattle.p8_image.specs.declared.parts.ObjectPart.{ObjectPart}
 use Rattle.p8_image.specs.Layout.{total, own_variables, variables_within, whole_longs}
-use Rattle.p8_image.specs.Listing.{further}
+use Rattle.p8_image.specs.Listing.{address_after}
 use Rattle.p8_map.specs.Map.{low}
 
-pub further_twice : (place a b : ℕ) → further (further place a) b ≡ further place (a + b)
-further_twice place a b = omega arith
+pub address_after_twice : (place a b : ℕ) → address_after (address_after place a) b ≡ address_after place (a + b)
+address_after_twice place a b = omega arith
 
-pub further_low : (place bytes : ℕ) → further place (bytes % 65536) ≡ further place bytes
-further_low place bytes = omega arith
+pub address_after_low : (place bytes : ℕ) → address_after place (bytes % 65536) ≡ address_after place bytes
+address_after_low place bytes = omega arith
 
 pub low_whole : (a b : ℕ) → a % 65536 ≡ b % 65536 → whole_longs a % 65536 ≡ whole_longs b % 65536
 low_whole a b same = omega arith

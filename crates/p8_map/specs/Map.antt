@@ -10,7 +10,7 @@ use Rattle.p8_image.specs.declared.parts.Variable.{Variable}
 use Rattle.p8_image.specs.declared.parts.MethodPart.{MethodPart}
 use Rattle.p8_image.specs.declared.parts.ObjectPart.{ObjectPart}
 use Rattle.p8_image.specs.Headers.{word_at}
-use Rattle.p8_image.specs.Listing.{further}
+use Rattle.p8_image.specs.Listing.{address_after}
 use Rattle.p8_image.specs.Layout.{variable_size, own_variables, codes_offset, text_size, size_of, variables_of}
 use Rattle.p8_instr.specs.Numerals.{hex}
 use Rattle.p8_map.specs.declared.instances.Instance.{Instance}
@@ -69,13 +69,13 @@ child_line place name file = hex 4 place ++ codes " child " ++ name ++ codes " "
 
 abbrev pub child_lines : List FileNames → (place : ℕ) → (names : List (List ℕ)) → (instances : List ℕ) → List ℕ
 child_lines files place (name ∷ names) (f ∷ instances) =
-    child_line place name (file_name files f) ++ child_lines files (further place 4) names instances
+    child_line place name (file_name files f) ++ child_lines files (address_after place 4) names instances
 child_lines files place _ _ = []
 
 -- a label of DAT: where it stands in the hub, its address in a cog, which counts longs, and the size of what stands there
 abbrev pub label_line : (base : ℕ) → Label → List ℕ
 label_line base label =
-    hex 4 (further base label.offset) ++ codes " label " ++ label.name
+    hex 4 (address_after base label.offset) ++ codes " label " ++ label.name
     ++ codes " cog " ++ hex 3 (label.cog / 4) ++ codes " " ++ size_word label.size ++ 10 ∷ []
 
 -- a name of a method's frame, with so many longs from this offset on
@@ -84,18 +84,18 @@ frame_line offset kind name longs = codes "+" ++ hex 4 offset ++ kind ++ name ++
 
 abbrev pub parameter_lines : (offset : ℕ) → List (List ℕ) → List ℕ
 parameter_lines offset [] = []
-parameter_lines offset (name ∷ names) = frame_line offset (codes " parameter ") name 1 ++ parameter_lines (further offset 4) names
+parameter_lines offset (name ∷ names) = frame_line offset (codes " parameter ") name 1 ++ parameter_lines (address_after offset 4) names
 
 abbrev pub local_lines : (offset : ℕ) → List LocalName → List ℕ
 local_lines offset [] = []
-local_lines offset (x ∷ xs) = frame_line offset (codes " local ") x.name x.longs ++ local_lines (further offset (4 * x.longs)) xs
+local_lines offset (x ∷ xs) = frame_line offset (codes " local ") x.name x.longs ++ local_lines (address_after offset (4 * x.longs)) xs
 
 -- a method's frame: its result, its parameters and its locals
 abbrev pub frame_lines : MethodNames → List ℕ
 frame_lines m =
     frame_line 0 (codes " result ") (unwrap_or m.result (codes "RESULT")) 1
     ++ parameter_lines 4 m.parameters
-    ++ local_lines (further 4 (4 * length m.parameters)) m.locals
+    ++ local_lines (address_after 4 (4 * length m.parameters)) m.locals
 
 -- a method: where its code begins, its number and its name
 abbrev pub method_line : (place number : ℕ) → (name : List ℕ) → List ℕ
@@ -104,13 +104,13 @@ method_line place number name = hex 4 place ++ codes " method " ++ decimal numbe
 -- methods from a number on whose codes stand one after the other
 abbrev pub method_lines : (place number : ℕ) → List MethodNames → List MethodPart → List ℕ
 method_lines place number (m ∷ names) (method ∷ methods) =
-    method_line place number m.name ++ frame_lines m ++ method_lines (further place (length method.code)) (number + 1) names methods
+    method_line place number m.name ++ frame_lines m ++ method_lines (address_after place (length method.code)) (number + 1) names methods
 method_lines place number _ _ = []
 
 -- the place after the codes of methods
 abbrev pub after_codes : (place : ℕ) → List MethodPart → ℕ
 after_codes place [] = place
-after_codes place (method ∷ methods) = after_codes (further place (length method.code)) methods
+after_codes place (method ∷ methods) = after_codes (address_after place (length method.code)) methods
 
 -- a text, as the items of a STRING
 abbrev pub text_line : (place : ℕ) → (text : List ℕ) → List ℕ
@@ -118,21 +118,21 @@ text_line place text = hex 4 place ++ codes " string " ++ items_text text ++ 10 
 
 abbrev pub text_lines : (place : ℕ) → List (List ℕ) → List ℕ
 text_lines place [] = []
-text_lines place (text ∷ texts) = text_line place text ++ text_lines (further place (text_size text)) texts
+text_lines place (text ∷ texts) = text_line place text ++ text_lines (address_after place (text_size text)) texts
 
 -- an object that begins there, with the names of its file
 abbrev pub object_lines : List FileNames → (base : ℕ) → FileNames → ObjectPart → List ℕ
 object_lines files base names object =
     object_line base names.file
-    ++ child_lines files (further base (4 + 4 * length object.methods)) names.instances object.instances
+    ++ child_lines files (address_after base (4 + 4 * length object.methods)) names.instances object.instances
     ++ flat_map (label_line base) names.labels
-    ++ method_lines (further base (codes_offset object)) 1 names.methods object.methods
-    ++ text_lines (after_codes (further base (codes_offset object)) object.methods) object.texts
+    ++ method_lines (address_after base (codes_offset object)) 1 names.methods object.methods
+    ++ text_lines (after_codes (address_after base (codes_offset object)) object.methods) object.texts
 
 -- objects one after the other
 abbrev pub objects_lines : (files : List FileNames) → (base : ℕ) → List FileNames → List ObjectPart → List ℕ
 objects_lines files base (names ∷ rest) (object ∷ objects) =
-    object_lines files base names object ++ objects_lines files (further base (size_of object)) rest objects
+    object_lines files base names object ++ objects_lines files (address_after base (size_of object)) rest objects
 objects_lines files base _ _ = []
 
 -- ---- the instances of objects that have variables
@@ -154,7 +154,7 @@ one_inside within size place prefix name f = if size == 0 then [] else within (p
 abbrev pub all_inside : (within : (prefix : List ℕ) → (f place : ℕ) → List Instance) → (sizes : List ℕ) → (place : ℕ) → (prefix : List ℕ)
     → (names : List (List ℕ)) → (instances : List ℕ) → List Instance
 all_inside within sizes place prefix (name ∷ names) (f ∷ instances) =
-    one_inside within (slice_index sizes f) place prefix name f ++ all_inside within sizes (further place (slice_index sizes f)) prefix names instances
+    one_inside within (slice_index sizes f) place prefix name f ++ all_inside within sizes (address_after place (slice_index sizes f)) prefix names instances
 all_inside within sizes place prefix _ _ = []
 
 -- an instance whose variables begin there, and those inside it, whose variables stand after its own
@@ -162,7 +162,7 @@ abbrev pub with_inside : (within : (prefix : List ℕ) → (f place : ℕ) → L
     → Option FileNames → Option ObjectPart → List Instance
 with_inside within sizes prefix f place (Some names) (Some object) =
     own_instance prefix f place object.variables
-    ++ all_inside within sizes (further place (own_variables object)) prefix names.instances object.instances
+    ++ all_inside within sizes (address_after place (own_variables object)) prefix names.instances object.instances
 with_inside within sizes prefix f place _ _ = []
 
 -- an instance of object f with those inside it, if objects stand inside each other at most so deep, where objects have so many bytes of variables
@@ -180,7 +180,7 @@ instances_from variables_at files objects = instances_within files objects (low 
 -- where objects stand, one after the other
 abbrev pub bases_from : (base : ℕ) → List ObjectPart → List ℕ
 bases_from base [] = []
-bases_from base (object ∷ objects) = base ∷ bases_from (further base (size_of object)) objects
+bases_from base (object ∷ objects) = base ∷ bases_from (address_after base (size_of object)) objects
 
 -- the file of an instance, and where its object stands
 abbrev pub instance_file : (file : List ℕ) → (base : ℕ) → List ℕ
@@ -208,13 +208,13 @@ sized_bytes size v = if v.size == size then variable_size v else 0
 -- the variables of one size, one after the other
 abbrev pub sized_lines : (size place : ℕ) → (prefix : List ℕ) → (names : List (List ℕ)) → List Variable → List ℕ
 sized_lines size place prefix (name ∷ names) (v ∷ variables) =
-    sized_line size place prefix name v ++ sized_lines size (further place (sized_bytes size v)) prefix names variables
+    sized_line size place prefix name v ++ sized_lines size (address_after place (sized_bytes size v)) prefix names variables
 sized_lines size place prefix _ _ = []
 
 -- the place after the variables of one size
 abbrev pub after_size : (size place : ℕ) → List Variable → ℕ
 after_size size place [] = place
-after_size size place (v ∷ variables) = after_size size (further place (sized_bytes size v)) variables
+after_size size place (v ∷ variables) = after_size size (address_after place (sized_bytes size v)) variables
 
 -- the variables of an object: longs come first, then words, then bytes
 abbrev pub variable_lines : (place : ℕ) → (prefix : List ℕ) → (names : List (List ℕ)) → List Variable → List ℕ

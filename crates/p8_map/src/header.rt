@@ -4,7 +4,7 @@ ghost use Rattle.p8_instr.specs.Numerals.{hex};
 ghost use Rattle.p8_image.specs.Headers.{word_at as word_in};
 ghost use Rattle.p8_map.specs.Map.{byte_line, clock_lines, field_line, header_lines, memory_lines, place_lines, word_line};
 
-use crate::text::{push_number, push_place};
+use crate::appending::{push_number, push_place};
 use p8_instr::{byte_digits, push_text, word_digits};
 use p8_words::NoMemory;
 

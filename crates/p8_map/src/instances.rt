@@ -1,12 +1,12 @@
 // The instances of objects.
 ghost use Rattle.std.specs.Prelude.{◌≡◌, ◌++◌, codes, slice_get, slice_index, Some, None, MatchOption, OnOk, IfOk};
 ghost use Rattle.p8_image.specs.Layout.{own_variables as own_variables_of};
-ghost use Rattle.p8_image.specs.Listing.{further as further_by};
+ghost use Rattle.p8_image.specs.Listing.{address_after as address_by};
 ghost use Rattle.p8_map.specs.Map.{all_inside, instances_from, instances_within, one_inside, own_instance};
 
+use crate::appending::address_after;
 use crate::names::FileNames;
 use crate::plan::{number_at, own_variables, sizes};
-use crate::text::further;
 use p8_image::{ObjectPart, Variable};
 use p8_instr::push_text;
 use p8_tree::{List, Text};
@@ -98,11 +98,11 @@ fn object_at(objects: &[ObjectPart], number: u8) -> Option<&ObjectPart>
 }
 
 /// The place after an object's own variables.
-#[tactic(auto, using(crate::proofs::Places::further_low))]
+#[tactic(auto, using(crate::proofs::Places::address_after_low))]
 fn after_own(place: u16, object: &ObjectPart) -> u16
-    ensures { result ≡ further_by place (own_variables_of object.now) }
+    ensures { result ≡ address_by place (own_variables_of object.now) }
 {
-    further(place, u64::from(own_variables(object)))
+    address_after(place, u64::from(own_variables(object)))
 }
 
 /// What the names of an instance inside another begin with.
@@ -180,7 +180,7 @@ fn push_inner(
             return Ok(());
         };
         push_one(alloc, all, plan, depth, prefix, *file, place, name)?;
-        place = further(place, u64::from(number_at(plan.sizes, *file)));
+        place = address_after(place, u64::from(number_at(plan.sizes, *file)));
         rest = others;
     }
     Ok(())

@@ -2,6 +2,7 @@
 #![tactic(auto)]
 
 mod accepted;
+mod appending;
 mod header;
 mod instances;
 mod labels;
@@ -14,10 +15,10 @@ mod plan;
 mod project;
 mod spelled;
 mod strings;
-mod text;
 mod variables;
 
 pub use accepted::names_of_accepted;
+pub use appending::{address_after, push_number, push_place};
 pub use header::variables_at;
 pub use instances::{Instance, instances_of};
 pub use mapping::map_text;
@@ -25,5 +26,4 @@ pub use names::{FileNames, LocalName, MethodNames};
 pub use objects::push_text_line;
 pub use project::{map_of_accepted, project_map};
 pub use strings::push_items;
-pub use text::{further, push_number, push_place};
 pub use variables::{after_size, sized_bytes};

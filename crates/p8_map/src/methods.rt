@@ -2,8 +2,8 @@
 ghost use Rattle.std.specs.Prelude.{◌≡◌, ◌++◌, unwrap_or, codes, OnOk};
 ghost use Rattle.p8_map.specs.Map.{frame_line, frame_lines, local_lines, method_line, method_lines, parameter_lines};
 
+use crate::appending::{address_after, push_number, push_place};
 use crate::names::{LocalName, MethodNames};
-use crate::text::{further, push_number, push_place};
 use p8_image::MethodPart;
 use p8_instr::push_text;
 use p8_tree::Text;
@@ -37,7 +37,7 @@ fn push_parameters(out: &mut Vec<u8>, mut offset: u16, parameters: &[Text]) -> R
 {
     for name in parameters {
         push_frame_line(out, offset, b" parameter ", name.as_slice(), 1)?;
-        offset = further(offset, LONG);
+        offset = address_after(offset, LONG);
     }
     Ok(())
 }
@@ -48,7 +48,7 @@ fn push_locals(out: &mut Vec<u8>, mut offset: u16, locals: &[LocalName]) -> Resu
 {
     for local in locals {
         push_frame_line(out, offset, b" local ", local.name.as_slice(), local.longs)?;
-        offset = further(offset, LONG * u64::from(local.longs));
+        offset = address_after(offset, LONG * u64::from(local.longs));
     }
     Ok(())
 }
@@ -68,7 +68,7 @@ fn push_frame(out: &mut Vec<u8>, names: &MethodNames) -> Result<(), NoMemory>
     ensures { OnOk result (out.new.items ≡ out.old.items ++ frame_lines names.now) }
 {
     let parameters = names.parameters.as_slice();
-    let locals = further(4, LONG * (parameters.len() as u64 % 16_384));
+    let locals = address_after(4, LONG * (parameters.len() as u64 % 16_384));
     push_frame_line(out, 0, b" result ", result_name(names), 1)?;
     push_parameters(out, 4, parameters)?;
     push_locals(out, locals, names.locals.as_slice())
@@ -102,7 +102,7 @@ pub fn push_methods(
         };
         push_method(out, place, index as u64 + 1, own.name.as_slice())?;
         push_frame(out, own)?;
-        place = further(place, method.code.len() as u64);
+        place = address_after(place, method.code.len() as u64);
         rest = others;
     }
     Ok(())

@@ -2,15 +2,15 @@
 ghost use Rattle.std.specs.Prelude.{◌≡◌, ◌++◌, ◌+◌, ◌*◌, length, OnOk};
 ghost use Rattle.std.specs.List.{flat_map};
 ghost use Rattle.p8_image.specs.Layout.{codes_offset, text_size};
-ghost use Rattle.p8_image.specs.Listing.{further as further_by};
+ghost use Rattle.p8_image.specs.Listing.{address_after as address_by};
 ghost use Rattle.p8_map.specs.Map.{after_codes as after_codes_from, child_line, child_lines, file_name as name_of_file};
 ghost use Rattle.p8_map.specs.Map.{label_line, object_line, object_lines, objects_lines, text_line, text_lines};
 
+use crate::appending::{address_after, push_place, size_word};
 use crate::methods::push_methods;
 use crate::names::FileNames;
 use crate::plan::FIRST_BASE;
 use crate::strings::push_items;
-use crate::text::{further, push_place, size_word};
 use p8_image::{MethodPart, ObjectPart, Offsets};
 use p8_instr::{push_text, register_digits};
 use p8_kinds::Label;
@@ -35,18 +35,18 @@ fn file_name(files: &[FileNames], number: u8) -> &[u8]
 
 /// Where the entries of the objects inside an object stand.
 fn children_place(base: u16, object: &ObjectPart) -> u16
-    ensures { result ≡ further_by base (4 + 4 * length object.now.methods) }
+    ensures { result ≡ address_by base (4 + 4 * length object.now.methods) }
 {
     let methods = object.methods.len() as u64 % MOST_ENTRIES;
-    further(base, ENTRY + ENTRY * methods)
+    address_after(base, ENTRY + ENTRY * methods)
 }
 
 /// Where the codes of an object's methods stand.
-#[tactic(auto, using(crate::proofs::Places::further_low))]
+#[tactic(auto, using(crate::proofs::Places::address_after_low))]
 fn codes_place(base: u16, object: &ObjectPart) -> u16
-    ensures { result ≡ further_by base (codes_offset object.now) }
+    ensures { result ≡ address_by base (codes_offset object.now) }
 {
-    further(base, u64::from(Offsets::of(object).codes))
+    address_after(base, u64::from(Offsets::of(object).codes))
 }
 
 /// The place after codes that stand one after the other.
@@ -54,7 +54,7 @@ fn after_codes(mut place: u16, methods: &[MethodPart]) -> u16
     ensures { result ≡ after_codes_from place methods.now }
 {
     for method in methods {
-        place = further(place, method.code.len() as u64);
+        place = address_after(place, method.code.len() as u64);
     }
     place
 }
@@ -97,7 +97,7 @@ fn push_children(
             return Ok(());
         };
         push_child(out, place, name.as_slice(), file_name(files, *file))?;
-        place = further(place, ENTRY);
+        place = address_after(place, ENTRY);
         rest = others;
     }
     Ok(())
@@ -107,7 +107,7 @@ fn push_children(
 fn push_label(out: &mut Vec<u8>, base: u16, label: &Label) -> Result<(), NoMemory>
     ensures { OnOk result (out.new.items ≡ out.old.items ++ label_line base label.now) }
 {
-    push_place(out, further(base, u64::from(label.offset)))?;
+    push_place(out, address_after(base, u64::from(label.offset)))?;
     push_text(out, b" label ")?;
     push_text(out, label.name.as_slice())?;
     push_text(out, b" cog ")?;
@@ -149,11 +149,11 @@ fn push_texts(out: &mut Vec<u8>, mut place: u16, texts: &[Text]) -> Result<(), N
 }
 
 /// The place after a text and the zero that ends it.
-#[tactic(auto, using(crate::proofs::Places::further_twice))]
+#[tactic(auto, using(crate::proofs::Places::address_after_twice))]
 fn after_text(place: u16, text: &Text) -> u16
-    ensures { result ≡ further_by place (text_size text.now) }
+    ensures { result ≡ address_by place (text_size text.now) }
 {
-    further(further(place, text.len() as u64), 1)
+    address_after(address_after(place, text.len() as u64), 1)
 }
 
 /// Appends the lines of an object that begins at an address, with the names of its file.
@@ -188,7 +188,7 @@ fn push_object(
 }
 
 /// Appends the lines of the objects of a project, which stand one after the other.
-#[tactic(auto, using(crate::proofs::Places::further_low))]
+#[tactic(auto, using(crate::proofs::Places::address_after_low))]
 pub fn push_objects(
     out: &mut Vec<u8>,
     files: &[FileNames],
@@ -203,7 +203,7 @@ pub fn push_objects(
             return Ok(());
         };
         push_object(out, files, base, names, object)?;
-        base = further(base, u64::from(Offsets::of(object).size));
+        base = address_after(base, u64::from(Offsets::of(object).size));
         rest = others;
     }
     Ok(())

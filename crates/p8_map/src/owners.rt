@@ -3,10 +3,10 @@ ghost use Rattle.std.specs.Prelude.{◌≡◌, ◌++◌, OnOk};
 ghost use Rattle.std.specs.List.{flat_map};
 ghost use Rattle.p8_map.specs.Map.{instance_file, instance_line, instance_lines};
 
+use crate::appending::push_place;
 use crate::instances::Instance;
 use crate::names::FileNames;
 use crate::plan::number_at;
-use crate::text::push_place;
 use crate::variables::push_variables;
 use p8_image::ObjectPart;
 use p8_instr::push_text;

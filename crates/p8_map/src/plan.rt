@@ -3,7 +3,7 @@ ghost use Rattle.std.specs.Prelude.{◌≡◌, ◌+◌, ◌%◌, map, slice_inde
 ghost use Rattle.p8_image.specs.Layout.{own_variables, total, variable_size, variables_of};
 ghost use Rattle.p8_map.specs.Map.{bases_from, low};
 
-use crate::text::further;
+use crate::appending::address_after;
 use p8_image::{ObjectPart, Offsets, Variable};
 use p8_words::NoMemory;
 use std::alloc::Global;
@@ -12,7 +12,7 @@ use std::alloc::Global;
 pub const FIRST_BASE: u16 = 16;
 
 /// Where the objects of a project stand, one after the other.
-#[tactic(auto, using(crate::proofs::Places::further_low))]
+#[tactic(auto, using(crate::proofs::Places::address_after_low))]
 pub fn bases(alloc: Global, objects: &[ObjectPart]) -> Result<Vec<u16>, NoMemory>
     ensures { IfOk result (λ bases. bases.items ≡ bases_from 16 objects.now) }
 {
@@ -20,7 +20,7 @@ pub fn bases(alloc: Global, objects: &[ObjectPart]) -> Result<Vec<u16>, NoMemory
     let mut base = FIRST_BASE;
     for object in objects {
         bases.extend_from_slice(&[base])?;
-        base = further(base, u64::from(Offsets::of(object).size));
+        base = address_after(base, u64::from(Offsets::of(object).size));
     }
     Ok(bases)
 }
@@ -38,7 +38,7 @@ fn variables_size(variables: &[Variable]) -> u16
 {
     let mut bytes = 0;
     for variable in variables {
-        bytes = further(bytes, variable_bytes(*variable));
+        bytes = address_after(bytes, variable_bytes(*variable));
     }
     bytes
 }
@@ -65,7 +65,7 @@ fn inner_variables(instances: &[u8], sizes: &[u16]) -> u16
 {
     let mut bytes = 0;
     for file in instances {
-        bytes = further(bytes, u64::from(number_at(sizes, *file)));
+        bytes = address_after(bytes, u64::from(number_at(sizes, *file)));
     }
     bytes
 }
@@ -75,7 +75,7 @@ fn all_variables(object: &ObjectPart, sizes: &[u16]) -> u16
     ensures { result ≡ (own_variables object.now + total (slice_index sizes.now) object.now.instances) % 65536 }
 {
     let inner = inner_variables(object.instances.as_slice(), sizes);
-    further(own_variables(object), u64::from(inner))
+    address_after(own_variables(object), u64::from(inner))
 }
 
 /// The bytes of variables of each object with those of the objects inside it, as `sizes` tells them.

@@ -3,7 +3,7 @@ ghost use Rattle.std.specs.Prelude.{◌≡◌, ◌≤◌, ◌++◌, length, map,
 ghost use Rattle.p8_map.specs.Stretches.{comma as comma_before, quotables as quotables_of, stretch_size};
 ghost use Rattle.p8_map.specs.Strings.{is_quotable as can_stand_in_quotes, item_text, items_text, joined, quoted, stretches_of};
 
-use crate::text::push_number;
+use crate::appending::push_number;
 use p8_instr::push_text;
 use p8_words::NoMemory;
 

@@ -2,8 +2,8 @@
 ghost use Rattle.std.specs.Prelude.{◌≡◌, ◌++◌, OnOk};
 ghost use Rattle.p8_map.specs.Map.{after_size as after_variables, elements, sized_bytes as bytes_among, sized_line, sized_lines, variable_line, variable_lines};
 
+use crate::appending::{address_after, push_number, push_place, size_word};
 use crate::plan::variable_bytes;
-use crate::text::{further, push_number, push_place, size_word};
 use p8_image::Variable;
 use p8_instr::push_text;
 use p8_tree::Text;
@@ -71,7 +71,7 @@ pub fn after_size(size: u8, mut place: u16, variables: &[Variable]) -> u16
     ensures { result ≡ after_variables size place variables.now }
 {
     for variable in variables {
-        place = further(place, sized_bytes(size, *variable));
+        place = address_after(place, sized_bytes(size, *variable));
     }
     place
 }
@@ -93,7 +93,7 @@ fn push_all_sized(
             return Ok(());
         };
         push_sized(out, size, place, prefix, name.as_slice(), *variable)?;
-        place = further(place, sized_bytes(size, *variable));
+        place = address_after(place, sized_bytes(size, *variable));
         rest = others;
     }
     Ok(())

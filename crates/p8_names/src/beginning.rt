@@ -12,7 +12,7 @@ ghost use Rattle.p8_names.specs.Beginning.{IsBegun};
 
 use crate::file_kinds::file_kinds;
 use crate::outside::outside;
-use p8_constants::{Found, Item, NamedConstant, constants_of, items_of, predefined};
+use p8_constants::{FileConstants, Item, NamedConstant, constants_of, items_of, predefined};
 use p8_fold::Consts;
 use p8_kinds::{Children, Scope, publics_of};
 use p8_tree::{Fault, SourceFile};
@@ -38,7 +38,7 @@ fn meanings(
     children: &Children,
     items: &[Item<'_>],
     predefined: &[NamedConstant],
-) -> Result<Found, NoMemory>
+) -> Result<FileConstants, NoMemory>
     requires all { items_of items.now ≡ all_items (source_of file.now) }
     requires table { valued predefined.now ≡ table }
     ensures setting { IfOk result (λ found. IsSetting (source_of file.now) children.now.items (setting_of found.consts)) }
@@ -78,7 +78,7 @@ pub(crate) fn begin<'a>(
 {
     let items = items_of(alloc, file)?;
     let predefined = predefined(alloc)?;
-    let Found { consts, fault } = meanings(alloc, file, children, &items, &predefined)?;
+    let FileConstants { consts, fault } = meanings(alloc, file, children, &items, &predefined)?;
     let kinds = file_kinds(alloc, &consts, &items, &predefined)?;
     let publics = publics_of(alloc, children)?;
     let scope = Scope {

@@ -7,7 +7,7 @@ ghost use Rattle.p8_names.specs.Finding.{AreDone, IsLookedAt, NoneLeadsOn};
 
 use crate::child::child_of;
 use crate::copies::children_at;
-use crate::graph::graph_of;
+use crate::mention_graph::graph_of;
 use p8_constants::{Graph, components, in_order};
 use p8_kinds::{Child, Children};
 use p8_tree::{List, Project, SourceFile};
@@ -16,7 +16,7 @@ use std::alloc::{AllocError, Global};
 
 /// What is found of the files of a project, at their numbers.
 #[derive(Drop)]
-struct Found {
+struct SeenFiles {
     /// What each file sees of the files of its objects.
     children: Vec<Children>,
     /// What is seen of each file.
@@ -36,12 +36,17 @@ pub fn children_of(alloc: Global, project: &Project) -> Result<Vec<Children>, No
     let graph = graph_of(alloc, project)?;
     let numbers = components(alloc, &graph)?;
     let order = in_order(alloc, &numbers)?;
-    let Found { children, .. } = find(alloc, project, &graph, &order)?;
+    let SeenFiles { children, .. } = find(alloc, project, &graph, &order)?;
     Ok(children)
 }
 
 // Looks at the files in an order in which none leads to itself or to a later one.
-fn find(alloc: Global, project: &Project, graph: &Graph, order: &[usize]) -> Result<Found, NoMemory>
+fn find(
+    alloc: Global,
+    project: &Project,
+    graph: &Graph,
+    order: &[usize],
+) -> Result<SeenFiles, NoMemory>
     requires size { length graph.now ≡ length (named_sources_of project.now) }
     requires nodes { All (λ a. a < length (named_sources_of project.now)) order.now }
     requires behind { NoneLeadsOn graph.now order.now }
@@ -57,11 +62,11 @@ fn find(alloc: Global, project: &Project, graph: &Graph, order: &[usize]) -> Res
 }
 
 // Nothing, for so many files.
-fn nothing_found(alloc: Global, count: usize) -> Result<Found, AllocError>
+fn nothing_found(alloc: Global, count: usize) -> Result<SeenFiles, AllocError>
     ensures children { IfOk result (λ found. length found.children.items ≡ count) }
     ensures seen { IfOk result (λ found. length found.seen.items ≡ count) }
 {
-    let mut found = Found {
+    let mut found = SeenFiles {
         children: Vec::new(alloc),
         seen: Vec::new(alloc),
     };
@@ -77,7 +82,7 @@ fn nothing_found(alloc: Global, count: usize) -> Result<Found, AllocError>
     Ok(found)
 }
 
-impl Found {
+impl SeenFiles {
     // Looks at a file, whose targets have been looked at.
     fn look_at(
         &mut self,

@@ -4,8 +4,8 @@
 use Rattle.std.specs.Prelude.{ℕ, ◌+◌, ◌-◌, ◌*◌, ◌<◌, ◌==◌, ◌&&◌, ◌||◌, not, nat_le, nat_lt, if◌then◌else◌, Bool, true}
 use Rattle.std.specs.Prelude.{List, [], ◌∷◌, ◌++◌, codes, flat_map}
 use Rattle.p8_instr.specs.Numerals.{hex}
-use Rattle.p8_page.specs.declared.kind.Kind.{Kind}
-use Rattle.p8_page.specs.declared.kind.Kind.TheVariants as kind
+use Rattle.p8_page.specs.declared.block_kind.BlockKind.{BlockKind}
+use Rattle.p8_page.specs.declared.block_kind.BlockKind.TheVariants as kind
 
 -- what a block may hold: line feeds, and what ASCII prints but for `<`, with which all markup begins
 abbrev pub is_inert : ℕ → Bool
@@ -48,7 +48,7 @@ AreBytes [] = Unit {0}
 AreBytes (c ∷ cs) = (c < 256) × AreBytes cs
 
 -- the word of a kind, by which the page's script finds a block
-abbrev pub word_of : Kind → List ℕ
+abbrev pub word_of : BlockKind → List ℕ
 word_of kind.File = codes "file"
 word_of kind.Range = codes "range"
 word_of kind.Windows = codes "windows"
@@ -58,9 +58,9 @@ word_of kind.Map = codes "map"
 word_of kind.Name = codes "name"
 word_of kind.Source = codes "source"
 
-abbrev pub mark_of : Kind → List ℕ
+abbrev pub mark_of : BlockKind → List ℕ
 mark_of k = codes "<script type=\"text/plain\" class=\"" ++ word_of k ++ codes "\">"
 
 -- a block of these bytes
-abbrev pub block_text : Kind → (bytes : List ℕ) → List ℕ
+abbrev pub block_text : BlockKind → (bytes : List ℕ) → List ℕ
 block_text k bytes = mark_of k ++ flat_map escaped bytes ++ codes "</script>\n"

@@ -8,12 +8,12 @@ use Rattle.p8_instr.specs.Numerals.{hex}
 use Rattle.p8_page.specs.declared.frame.TheConstants.{OPENING, BODY, RUNNING, CLOSING}
 use Rattle.p8_page.specs.declared.script.TheConstants.{SCRIPT}
 use Rattle.p8_page.specs.declared.style.TheConstants.{STYLE}
-use Rattle.p8_page.specs.declared.kind.Kind.{Kind}
-use Rattle.p8_page.specs.declared.kind.Kind.TheVariants as kind
+use Rattle.p8_page.specs.declared.block_kind.BlockKind.{BlockKind}
+use Rattle.p8_page.specs.declared.block_kind.BlockKind.TheVariants as kind
 use Rattle.p8_page.specs.Blocks.{block_text}
 
 pub record Block : Type 0 where
-  pub kind : Kind
+  pub kind : BlockKind
   pub bytes : List ℕ
 
 -- what every page begins with: its style, its buttons and its places; and what it ends with, its script

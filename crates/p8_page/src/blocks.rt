@@ -3,13 +3,13 @@ ghost use Rattle.std.specs.Prelude.{◌≡◌, ◌++◌, OnOk};
 ghost use Rattle.p8_page.specs.Blocks.{block_text, mark_of};
 ghost use Rattle.p8_page.specs.Page.{blocks_text, map_block, source_blocks};
 
+use crate::block_kind::BlockKind;
 use crate::escaping::push_escaped;
-use crate::kind::Kind;
 use p8_instr::push_text;
 use p8_words::NoMemory;
 
 /// Appends the mark with which a block begins.
-fn push_mark(out: &mut Vec<u8>, kind: Kind) -> Result<(), NoMemory>
+fn push_mark(out: &mut Vec<u8>, kind: BlockKind) -> Result<(), NoMemory>
     ensures { OnOk result (out.new.items ≡ out.old.items ++ mark_of kind) }
 {
     push_text(out, b"<script type=\"text/plain\" class=\"")?;
@@ -18,7 +18,7 @@ fn push_mark(out: &mut Vec<u8>, kind: Kind) -> Result<(), NoMemory>
 }
 
 /// Appends a block of these bytes.
-pub(crate) fn push_block(out: &mut Vec<u8>, kind: Kind, bytes: &[u8]) -> Result<(), NoMemory>
+pub(crate) fn push_block(out: &mut Vec<u8>, kind: BlockKind, bytes: &[u8]) -> Result<(), NoMemory>
     ensures { OnOk result (out.new.items ≡ out.old.items ++ block_text kind bytes.now) }
 {
     push_mark(out, kind)?;
@@ -30,13 +30,13 @@ pub(crate) fn push_block(out: &mut Vec<u8>, kind: Kind, bytes: &[u8]) -> Result<
 pub fn push_map(out: &mut Vec<u8>, map: &[u8]) -> Result<(), NoMemory>
     ensures { OnOk result (out.new.items ≡ out.old.items ++ blocks_text (map_block map.now)) }
 {
-    push_block(out, Kind::Map, map)
+    push_block(out, BlockKind::Map, map)
 }
 
 /// Appends the blocks of a file of a project: its name, as the lines of the view have it, and its bytes. The only error is want of memory.
 pub fn push_source(out: &mut Vec<u8>, name: &[u8], bytes: &[u8]) -> Result<(), NoMemory>
     ensures { OnOk result (out.new.items ≡ out.old.items ++ blocks_text (source_blocks name.now bytes.now)) }
 {
-    push_block(out, Kind::Name, name)?;
-    push_block(out, Kind::Source, bytes)
+    push_block(out, BlockKind::Name, name)?;
+    push_block(out, BlockKind::Source, bytes)
 }

@@ -4,17 +4,17 @@
 //! every page: the style (`style`), the buttons and places (`frame`) and the script (`script`), which reads the blocks and draws them.
 #![tactic(auto)]
 
+mod block_kind;
 mod blocks;
 mod escaping;
 mod frame;
-mod kind;
 mod laws;
 mod numbers;
 mod pages;
 mod script;
 mod style;
 
+pub use block_kind::BlockKind;
 pub use blocks::{push_map, push_source};
-pub use kind::Kind;
 pub use laws::{blocks_are_inert, blocks_are_read_back};
 pub use pages::{Span, page};

@@ -6,9 +6,9 @@ ghost use Rattle.p8_page.specs.Page.{Block, head, tail, blocks_text, changes_by,
 ghost use Rattle.p8_page.specs.Blocks.{block_text};
 ghost use Rattle.p8_page.specs.Kept.{kept};
 
+use crate::block_kind::BlockKind;
 use crate::blocks::push_block;
 use crate::frame::{BODY, CLOSING, OPENING, RUNNING};
-use crate::kind::Kind;
 use crate::numbers::{push_changes, push_range, push_windows};
 use crate::script::SCRIPT;
 use crate::style::STYLE;
@@ -48,21 +48,21 @@ fn push_tail(out: &mut Vec<u8>) -> Result<(), NoMemory>
 
 /// Appends the block of the clocks that are shown.
 fn push_range_block(alloc: Global, out: &mut Vec<u8>, span: Span) -> Result<(), NoMemory>
-    ensures { OnOk result (out.new.items ≡ out.old.items ++ block_text Kind.Range (range_text span.from span.to)) }
+    ensures { OnOk result (out.new.items ≡ out.old.items ++ block_text BlockKind.Range (range_text span.from span.to)) }
 {
     let mut text = Vec::new(alloc);
     push_range(&mut text, span.from, span.to)?;
-    push_block(out, Kind::Range, &text)
+    push_block(out, BlockKind::Range, &text)
 }
 
 /// Appends the block of the cogs' windows.
 fn push_windows_block(alloc: Global, out: &mut Vec<u8>, from: u64) -> Result<(), NoMemory>
     requires { from < 2 ^ 62 }
-    ensures { OnOk result (out.new.items ≡ out.old.items ++ block_text Kind.Windows (windows_text from)) }
+    ensures { OnOk result (out.new.items ≡ out.old.items ++ block_text BlockKind.Windows (windows_text from)) }
 {
     let mut text = Vec::new(alloc);
     push_windows(&mut text, from)?;
-    push_block(out, Kind::Windows, &text)
+    push_block(out, BlockKind::Windows, &text)
 }
 
 /// Appends the block of the pins.
@@ -72,11 +72,11 @@ fn push_pins_block(
     changes: &[Change],
     end: u64,
 ) -> Result<(), NoMemory>
-    ensures { OnOk result (out.new.items ≡ out.old.items ++ block_text Kind.Pins (flat_map pins_line (kept 0 end (lines_of changes.now)))) }
+    ensures { OnOk result (out.new.items ≡ out.old.items ++ block_text BlockKind.Pins (flat_map pins_line (kept 0 end (lines_of changes.now)))) }
 {
     let mut text = Vec::new(alloc);
     push_changes(&mut text, changes, end)?;
-    push_block(out, Kind::Pins, &text)
+    push_block(out, BlockKind::Pins, &text)
 }
 
 /// Appends the blocks of a run.
@@ -92,10 +92,10 @@ fn push_run(
     ensures { OnOk result (out.new.items ≡ out.old.items ++
         blocks_text (run_blocks file.now span.from span.to view.now (kept 0 span.end (lines_of changes.now)))) }
 {
-    push_block(out, Kind::File, file)?;
+    push_block(out, BlockKind::File, file)?;
     push_range_block(alloc, out, span)?;
     push_windows_block(alloc, out, span.from)?;
-    push_block(out, Kind::View, view)?;
+    push_block(out, BlockKind::View, view)?;
     push_pins_block(alloc, out, changes, span.end)
 }
 

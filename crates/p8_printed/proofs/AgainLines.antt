@@ -9,8 +9,8 @@ use Rattle.p8_grammar.specs.Heights.{height}
 use Rattle.p8_grammar.specs.Proper as grammar
 use Rattle.p8_columns.specs.Lines.{Kind, Plain, If, ElseIf, Else, Repeat, End, Case, Item, Other}
 use Rattle.p8_lexer.specs.Pieces.{Piece}
-use Rattle.p8_lines.specs.declared.state.State.{State}
-use Rattle.p8_lines.specs.declared.state.State.TheVariants as state
+use Rattle.p8_lines.specs.declared.state.LineState.{LineState}
+use Rattle.p8_lines.specs.declared.state.LineState.TheVariants as state
 use Rattle.p8_lines.specs.Tokens.{LineToken, terms}
 use Rattle.p8_lines.specs.Lines.{Leads}
 use Rattle.p8_statements.specs.Statements.{kind_of_row}
@@ -122,7 +122,7 @@ reads_alike k' k e b =
           (x.0, x.1, leads, x.3, x.4 ∙ e);
     }
 
-pub of_row : (us : List LineToken) (row : List Piece) (k : Kind) → ((ts : List LineToken) → AreOfSource ts → grammar.AreProper (terms ts)) → KindsAreProper → (q : State) → MethodRowsAreProper q → Leads q us row state.End → AreOfSource us → kind_of_row row ≡ Some k → LineReadsBack k
+pub of_row : (us : List LineToken) (row : List Piece) (k : Kind) → ((ts : List LineToken) → AreOfSource ts → grammar.AreProper (terms ts)) → KindsAreProper → (q : LineState) → MethodRowsAreProper q → Leads q us row state.End → AreOfSource us → kind_of_row row ≡ Some k → LineReadsBack k
 of_row us row k proper kinds q rows leads source is =
     let x = kind_again k (row_is_line row k is) (kinds row k (rows us row leads (proper us source)) is) in
     reads_alike x.other k x.same (read_back x.other x.holds)

@@ -7,7 +7,7 @@ use Rattle.p8_tree.specs.Sources.{Constant}
 use Rattle.p8_tree.specs.Forgetting.{anywhere, constant_anywhere}
 use Rattle.p8_lexer.specs.declared.word.Word.TheVariants as word_case
 use Rattle.p8_grammar.specs.Lexemes.{in_declaration}
-use Rattle.p8_lines.specs.declared.state.State.TheVariants as state
+use Rattle.p8_lines.specs.declared.state.LineState.TheVariants as state
 use Rattle.p8_declarations.specs.Parts.{Part, part_of_word, is_line_end}
 use Rattle.p8_declarations.specs.Constants.{setting, constant, constants, constants_of_row}
 use Rattle.p8_printed.specs.Rereading.{ReadsBack}

@@ -2,7 +2,7 @@
 use Rattle.std.proofs.Common.{Some, option_map, ap}
 use Rattle.p8_tree.specs.Sources.{Line}
 use Rattle.p8_tree.specs.Forgetting.{line_anywhere}
-use Rattle.p8_lines.specs.declared.state.State.TheVariants as state
+use Rattle.p8_lines.specs.declared.state.LineState.TheVariants as state
 use Rattle.p8_declarations.specs.Lines.{line_of_row}
 use Rattle.p8_print.specs.Spelled.{IsReadable}
 use Rattle.p8_printed.specs.Lexemes.{IsInCapitals}

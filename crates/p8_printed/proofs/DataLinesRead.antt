@@ -13,7 +13,7 @@ use Rattle.p8_lexer.specs.declared.word.Word.TheVariants as word
 use Rattle.p8_grammar.specs.Lexemes.{in_dat}
 use Rattle.p8_lexer.specs.Pieces.{Piece}
 use Rattle.p8_lines.specs.declared.arrow.Arrow.{Arrow}
-use Rattle.p8_lines.specs.declared.state.State.TheVariants as state
+use Rattle.p8_lines.specs.declared.state.LineState.TheVariants as state
 use Rattle.p8_lines.specs.Signs.{is_condition}
 use Rattle.p8_lines.specs.Diagram.{◌⇒◌, choices}
 use Rattle.p8_lines.specs.Tokens as tokens
@@ -32,7 +32,7 @@ use Rattle.p8_printed.proofs.Readings.{IsRead, IsSize, byte_size, word_size, lon
 use Rattle.p8_printed.proofs.Made.{IfThere, IsLabel, plain, behind_colon, condition_number, IsCondition, a_condition, no_condition, IsInstruction, two, on_memory, one, jump, call, return, nothing, IsContents, of_data, of_org, of_res, of_fit, of_instruction, IsLine, label_alone, with_contents}
 use Rattle.p8_blocks.proofs.DataWords.{plain_part, condition_part}
 use Rattle.p8_printed.proofs.DataNames.{part_of_name, name_words}
-use Rattle.p8_printed.proofs.Going.{AreEnded, ended, Leading, Going, by_arrow, by_label, on, at_end, so, tree_read, behind_tree}
+use Rattle.p8_printed.proofs.Going.{AreEnded, ended, Leading, Going, by_arrow, by_label, on_word, at_end, so, tree_read, behind_tree}
 use Rattle.p8_printed.proofs.Operands.{colon_part}
 use Rattle.p8_printed.proofs.Items.{size_part, data_read}
 use Rattle.p8_printed.proofs.InstructionsRead.{Starts, line_starts, body_starts, conditioned_starts, word_read}
@@ -179,7 +179,7 @@ module _ (l : List Arrow) (starts : StartsBody l) where
   with_condition : (w : Word) (i : Instruction) (ts : List LineToken) → IsTrue (is_condition w) → IsInstruction i → i.cond ≡ condition_number w → AreEnded (reserved w ∷ reserved (instruction_word i.word) ∷ (words_of_operands i ++ words_of_effects i.effects)) ts → Going l ts (HasBody (Instr i))
   with_condition w i [] h is e are = absurd are
   with_condition w i (t ∷ ts) h is e are =
-      on l t w state.Conditioned (condition (condition_number w)) (HasBody (Instr i)) are.0.word (λ n. starts.conditions w n h) (condition_part t w are.0.word h) refl
+      on_word l t w state.Conditioned (condition (condition_number w)) (HasBody (Instr i)) are.0.word (λ n. starts.conditions w n h) (condition_part t w are.0.word h) refl
       (by_arrow state.Conditioned refl (word_read (choices state.Conditioned).arrows conditioned_starts i ts is are.1))
       (λ ps k. record { place = k.place; other = Instr k.other; given = λ x. ap (λ c. instruction c x ps) (sym e) ∙ k.given x; same = ap (λ i. Instr i) k.same; as_line = λ p. refl })
 
@@ -197,19 +197,19 @@ module _ (l : List Arrow) (starts : StartsBody l) where
   contents_read : (c : Contents) (ts : List LineToken) → IsContents c → AreEnded (words_of_contents c) ts → Going l ts (HasBody c)
   contents_read c [] (of_data is kinds) are = absurd are
   contents_read c (t ∷ ts) (of_data {n = n} {xs = xs} is kinds) are =
-      on l t (size_word n) state.FirstData (size n t.place) (HasBody (Data n xs)) are.0.word (λ m. starts.sizes n m is) (size_part n t is are.0.word) refl (data_read xs ts kinds are.1)
+      on_word l t (size_word n) state.FirstData (size n t.place) (HasBody (Data n xs)) are.0.word (λ m. starts.sizes n m is) (size_part n t is are.0.word) refl (data_read xs ts kinds are.1)
       (λ ps k. record { place = t.place; other = Data n k.others; given = λ x. ap (option_map (λ d. filled x t.place (Data n d))) k.is; same = ap (λ d. Data n d) k.same; as_line = λ p. refl })
   contents_read c [] (of_org is) are = absurd are
   contents_read c (t ∷ ts) (of_org {v = v} is) are =
-      on l t word.Org state.DatValue (org t.place) (HasBody (Org v)) are.0.word starts.org (org_part t are.0.word) refl (value_read v ts is are.1)
+      on_word l t word.Org state.DatValue (org t.place) (HasBody (Org v)) are.0.word starts.org (org_part t are.0.word) refl (value_read v ts is are.1)
       (λ ps k. record { place = t.place; other = Org k.other; given = λ x. ap (option_map (λ v. filled x t.place (Org v))) k.is; same = ap (λ v. Org v) k.same; as_line = λ p. refl })
   contents_read c [] (of_res is) are = absurd are
   contents_read c (t ∷ ts) (of_res {v = v} is) are =
-      on l t word.Res state.DatValue (res t.place) (HasBody (Res v)) are.0.word starts.res (res_part t are.0.word) refl (value_read v ts is are.1)
+      on_word l t word.Res state.DatValue (res t.place) (HasBody (Res v)) are.0.word starts.res (res_part t are.0.word) refl (value_read v ts is are.1)
       (λ ps k. record { place = t.place; other = Res k.other; given = λ x. ap (option_map (λ v. filled x t.place (Res v))) k.is; same = ap (λ v. Res v) k.same; as_line = λ p. refl })
   contents_read c [] (of_fit is) are = absurd are
   contents_read c (t ∷ ts) (of_fit {v = v} is) are =
-      on l t word.Fit state.DatValue (fit t.place) (HasBody (Fit v)) are.0.word starts.fit (fit_part t are.0.word) refl (value_read v ts is are.1)
+      on_word l t word.Fit state.DatValue (fit t.place) (HasBody (Fit v)) are.0.word starts.fit (fit_part t are.0.word) refl (value_read v ts is are.1)
       (λ ps k. record { place = t.place; other = Fit k.other; given = λ x. ap (option_map (λ v. filled x t.place (Fit v))) k.is; same = ap (λ v. Fit v) k.same; as_line = λ p. refl })
   contents_read c ts (of_instruction {i = i} is) are = instruction_read i ts is are
 
@@ -231,13 +231,13 @@ labels_read n x rest ts (plain is) next are = go ts (subst (λ ws. AreEnded (ws 
   where
     go : (ts : List LineToken) → AreEnded (spelled.name n ∷ rest) ts → Leading state.DatLine ts (Whole x)
     go [] are = absurd are
-    go (t ∷ ts) are = by_arrow state.DatLine refl (on (choices state.DatLine).arrows t word.Name state.DatBody (name n t.place) (Whole x) are.0.word (λ m. refl) (part_of_name n t is are.0) refl (next ts are.1) (λ ps k p. k p))
+    go (t ∷ ts) are = by_arrow state.DatLine refl (on_word (choices state.DatLine).arrows t word.Name state.DatBody (name n t.place) (Whole x) are.0.word (λ m. refl) (part_of_name n t is are.0) refl (next ts are.1) (λ ps k p. k p))
 labels_read n x rest [] (behind_colon is) next are = absurd are
 labels_read n x rest (t ∷ []) (behind_colon is) next are = absurd are.1
 labels_read n x rest (t ∷ u ∷ ts) (behind_colon {n = m} is) next are =
     let named : Leading state.DatLabel (u ∷ ts) (λ ps. Whole x (colon t.place ∷ ps))
     = by_label state.DatLabel state.DatBody refl refl m u (λ ps. Whole x (colon t.place ∷ ps)) is are.1.0 (next ts are.1.1) (λ ps k p. k p) in
-    by_arrow state.DatLine refl (on (choices state.DatLine).arrows t word.Colon state.DatLabel (colon t.place) (Whole x) are.0.word (λ m. refl) (colon_part t are.0.word) refl named (λ ps k. k))
+    by_arrow state.DatLine refl (on_word (choices state.DatLine).arrows t word.Colon state.DatLabel (colon t.place) (Whole x) are.0.word (λ m. refl) (colon_part t are.0.word) refl named (λ ps k. k))
 
 body_line : (p q : Place) (l : Option (List ℕ)) (c : Contents) (ps : List Part) → HasBody c ps → (r : Place) → HasLine (record { place = p; label = l; word_place = q; contents = c }) (option_map (λ x. Some x) (body (blank r l) ps))
 body_line p q l c ps k r = record {

@@ -9,8 +9,8 @@ use Rattle.p8_lexer.specs.declared.word.Word.{Word}
 use Rattle.p8_lexer.specs.declared.word.Word.TheVariants as word
 use Rattle.p8_lines.specs.declared.sign.Sign.TheVariants as sign
 use Rattle.p8_lines.specs.declared.arrow.Arrow.{Arrow}
-use Rattle.p8_lines.specs.declared.state.State.{State}
-use Rattle.p8_lines.specs.declared.state.State.TheVariants as state
+use Rattle.p8_lines.specs.declared.state.LineState.{LineState}
+use Rattle.p8_lines.specs.declared.state.LineState.TheVariants as state
 use Rattle.p8_lines.specs.Signs.{is_flag}
 use Rattle.p8_lines.specs.Diagram.{◌⇒◌, any, choices}
 use Rattle.p8_lines.specs.Tokens as tokens
@@ -24,7 +24,7 @@ use Rattle.p8_printed.proofs.Made.{effects_number, IsEffects, some_effects, IsFl
 use Rattle.p8_blocks.proofs.Closed.{halves}
 use Rattle.p8_blocks.proofs.DataWords.{plain_part}
 use Rattle.p8_printed.proofs.RowSteps.{unlabelled_end}
-use Rattle.p8_printed.proofs.Going.{AreEnded, Going, by_arrow, ends_here, on, at_end, so}
+use Rattle.p8_printed.proofs.Going.{AreEnded, Going, by_arrow, ends_here, on_word, at_end, so}
 
 -- the words of effects
 
@@ -94,13 +94,13 @@ value_of z c w n = record {
 }
 
 -- Words of a class lead from arrows to a state, and from there on to it again, up to the line's end.
-module _ (class : Word → Bool) (q : State) (part : (t : LineToken) (w : Word) → IsTrue (class w) → tokens.word t ≡ w → part_of_piece (piece t) ≡ effect_part w) (again : (w : Word) (n : ℕ) → IsTrue (class w) → target (choices q).arrows w n ≡ Some q) (over : (n : ℕ) → target (choices q).arrows word.LineEnd n ≡ Some state.End) where
+module _ (class : Word → Bool) (q : LineState) (part : (t : LineToken) (w : Word) → IsTrue (class w) → tokens.word t ≡ w → part_of_piece (piece t) ≡ effect_part w) (again : (w : Word) (n : ℕ) → IsTrue (class w) → target (choices q).arrows w n ≡ Some q) (over : (n : ℕ) → target (choices q).arrows word.LineEnd n ≡ Some state.End) where
   run : (l : List Arrow) → ((w : Word) (n : ℕ) → IsTrue (class w) → target l w n ≡ Some q) → ((n : ℕ) → target l word.LineEnd n ≡ Some state.End) → (ws : List Word) → IsTrue (all_are class ws) → (ts : List LineToken) → AreEnded (map reserved ws) ts → Going l ts (λ ps. ps ≡ map effect_part ws)
   run l takes ends [] h ts are = at_end l ts are ends refl
   run l takes ends (w ∷ ws) h [] are = absurd are
   run l takes ends (w ∷ ws) h (t ∷ ts) are =
       let y = halves (class w) (all_are class ws) h in
-      on l t w q (effect_part w) (λ ps. ps ≡ map effect_part (w ∷ ws)) are.0.word (λ n. takes w n y.0) (part t w y.0 are.0.word) (inside w)
+      on_word l t w q (effect_part w) (λ ps. ps ≡ map effect_part (w ∷ ws)) are.0.word (λ n. takes w n y.0) (part t w y.0 are.0.word) (inside w)
       (by_arrow q (unlabelled_end q over) (run (choices q).arrows again over ws y.1 ts are.1)) (λ ps e. ap (λ ps. effect_part w ∷ ps) e)
 
 -- after the operands of an instruction

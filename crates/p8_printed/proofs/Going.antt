@@ -11,8 +11,8 @@ use Rattle.p8_grammar.specs.Heights.{height}
 use Rattle.p8_lexer.specs.Pieces as pieces
 use Rattle.p8_lexer.specs.Pieces.{Piece}
 use Rattle.p8_lines.specs.declared.arrow.Arrow.{Arrow}
-use Rattle.p8_lines.specs.declared.state.State.{State}
-use Rattle.p8_lines.specs.declared.state.State.TheVariants as state
+use Rattle.p8_lines.specs.declared.state.LineState.{LineState}
+use Rattle.p8_lines.specs.declared.state.LineState.TheVariants as state
 use Rattle.p8_lines.specs.declared.sign.Sign.TheVariants as sign
 use Rattle.p8_lines.specs.Signs.{is_label}
 use Rattle.p8_lines.specs.Diagram.{Phrase, any, choices, outer}
@@ -60,7 +60,7 @@ cut (x ∷ xs) ys (t ∷ ts) are =
     record { left = t ∷ y.left; right = y.right; is = ap (λ us. t ∷ us) y.is; words = (are.0, y.words); rest = y.rest }
 
 -- From a state on, these tokens lead to the line's end, and this holds of their parts.
-pub record Leading (q : State) (ts : List LineToken) (K : List Part → Type 0) : Type 0 where
+pub record Leading (q : LineState) (ts : List LineToken) (K : List Part → Type 0) : Type 0 where
   pub row : List Piece
   pub leads : Leads q ts row state.End
   pub value : K (parts row)
@@ -70,31 +70,31 @@ pub record Going (l : List Arrow) (ts : List LineToken) (K : List Part → Type 
   pub token : LineToken
   pub others : List LineToken
   pub is : ts ≡ token ∷ others
-  pub to : State
+  pub to : LineState
   pub row : List Piece
   pub follows : Follows l token to
   pub leads : Leads to others row state.End
   pub value : K (parts (piece token ∷ row))
 
-pub by_arrow : (q : State) → is_labelled q ≡ false → {ts : List LineToken} {K : List Part → Type 0} → Going (choices q).arrows ts K → Leading q ts K
+pub by_arrow : (q : LineState) → is_labelled q ≡ false → {ts : List LineToken} {K : List Part → Type 0} → Going (choices q).arrows ts K → Leading q ts K
 by_arrow q unlabelled g = record { row = piece g.token ∷ g.row; leads = subst₂ (λ ts x. Leads q ts (x ∷ g.row) state.End) (sym g.is) (plain_piece q g.token unlabelled) (by_token g.follows g.leads); value = g.value }
 
 -- a state in which an expression may stand
-pub with_phrase : (q : State) {h : Phrase} → (choices q).phrase ≡ Some h → is_labelled q ≡ false
+pub with_phrase : (q : LineState) {h : Phrase} → (choices q).phrase ≡ Some h → is_labelled q ≡ false
 with_phrase state.DatLabel e = absurd cc
 with_phrase state.CallLocal e = absurd cc
 with_phrase q e = refl
 
 -- a local label's name leads from these states
-label_leads : (q r : State) → is_labelled q ≡ true → (choices q).arrows ≡ any sign.Label r ∷ [] → (t : LineToken) → IsTrue (is_label (tokens.word t)) → Follows (choices q).arrows t r
+label_leads : (q r : LineState) → is_labelled q ≡ true → (choices q).arrows ≡ any sign.Label r ∷ [] → (t : LineToken) → IsTrue (is_label (tokens.word t)) → Follows (choices q).arrows t r
 label_leads q r labelled arrows t is = subst (λ l. Follows l t r) (sym arrows) (here is)
 
-label_piece_in : (q : State) (t : LineToken) → is_labelled q ≡ true → piece_in q t ≡ label_piece t
+label_piece_in : (q : LineState) (t : LineToken) → is_labelled q ≡ true → piece_in q t ≡ label_piece t
 label_piece_in state.DatLabel t h = refl
 label_piece_in state.CallLocal t h = refl
 label_piece_in q t h = absurd cc
 
-pub by_label : (q r : State) → is_labelled q ≡ true → (choices q).arrows ≡ any sign.Label r ∷ [] → (n : List ℕ) (t : LineToken) {ts : List LineToken} {K : List Part → Type 0} (K' : List Part → Type 0) → IsWord n → IsSpelled (word_of_label n) t → Leading r ts K → ((ps : List Part) → K ps → K' (behind_colon n t.place ∷ ps)) → Leading q (t ∷ ts) K'
+pub by_label : (q r : LineState) → is_labelled q ≡ true → (choices q).arrows ≡ any sign.Label r ∷ [] → (n : List ℕ) (t : LineToken) {ts : List LineToken} {K : List Part → Type 0} (K' : List Part → Type 0) → IsWord n → IsSpelled (word_of_label n) t → Leading r ts K → ((ps : List Part) → K ps → K' (behind_colon n t.place ∷ ps)) → Leading q (t ∷ ts) K'
 by_label q r labelled arrows n t {ts = ts} K' word are y f = record {
   row = label_piece t ∷ y.row;
   leads = subst (λ x. Leads q (t ∷ ts) (x ∷ y.row) state.End) (label_piece_in q t labelled) (by_token (label_leads q r labelled arrows t (label_taken n t word are)) y.leads);
@@ -110,8 +110,8 @@ kept line_end ps h = absurd cc
 kept x ps h = refl
 
 -- a token that is a part, and what is after it
-pub on : (l : List Arrow) (t : LineToken) (w : Word) (r : State) (x : Part) {ts : List LineToken} {K : List Part → Type 0} (K' : List Part → Type 0) → tokens.word t ≡ w → ((n : ℕ) → target l w n ≡ Some r) → part_of_piece (piece t) ≡ x → ends_here x ≡ false → Leading r ts K → ((ps : List Part) → K ps → K' (x ∷ ps)) → Going l (t ∷ ts) K'
-on l t w r x {ts = ts} K' e goes is inside y f = record {
+pub on_word : (l : List Arrow) (t : LineToken) (w : Word) (r : LineState) (x : Part) {ts : List LineToken} {K : List Part → Type 0} (K' : List Part → Type 0) → tokens.word t ≡ w → ((n : ℕ) → target l w n ≡ Some r) → part_of_piece (piece t) ≡ x → ends_here x ≡ false → Leading r ts K → ((ps : List Part) → K ps → K' (x ∷ ps)) → Going l (t ∷ ts) K'
+on_word l t w r x {ts = ts} K' e goes is inside y f = record {
   token = t;
   others = ts;
   is = refl;
@@ -150,11 +150,11 @@ pub record TreeRead (s : Setting) (e : Tree) (ys : List Spelled) (ts : List Line
   pub same : IsSameTree other e
   pub rest : AreEnded ys right
 
-either_way : (b : Bool) (l : List Arrow) {t : LineToken} {r : State} → Follows l t r → Follows (if b then l else l) t r
+either_way : (b : Bool) (l : List Arrow) {t : LineToken} {r : LineState} → Follows l t r → Follows (if b then l else l) t r
 either_way true l f = f
 either_way false l f = f
 
-pub behind_tree : (q : State) (s : Setting) (l : List Arrow) {e : Tree} {ys : List Spelled} {ts : List LineToken} {K : List Part → Type 0} (K' : List Part → Type 0) → (choices q).phrase ≡ Some (outer s l) → (y : TreeRead s e ys ts) → Going l y.right K → ((ps : List Part) → K ps → K' (tree y.other y.first.place ∷ ps)) → Leading q ts K'
+pub behind_tree : (q : LineState) (s : Setting) (l : List Arrow) {e : Tree} {ys : List Spelled} {ts : List LineToken} {K : List Part → Type 0} (K' : List Part → Type 0) → (choices q).phrase ≡ Some (outer s l) → (y : TreeRead s e ys ts) → Going l y.right K → ((ps : List Part) → K ps → K' (tree y.other y.first.place ∷ ps)) → Leading q ts K'
 behind_tree q s l {ts = ts} K' some y g f =
     let row = pieces.tree y.other y.first.place ∷ piece g.token ∷ g.row in
     let us = y.first ∷ y.others in

@@ -10,8 +10,8 @@ use Rattle.p8_tree.specs.Forgetting.{anywhere, declared_anywhere, method_anywher
 use Rattle.p8_lexer.specs.declared.word.Word.TheVariants as word_case
 use Rattle.p8_grammar.specs.Lexemes.{in_method}
 use Rattle.p8_lexer.specs.Pieces.{Piece}
-use Rattle.p8_lines.specs.declared.state.State.{State}
-use Rattle.p8_lines.specs.declared.state.State.TheVariants as state
+use Rattle.p8_lines.specs.declared.state.LineState.{LineState}
+use Rattle.p8_lines.specs.declared.state.LineState.TheVariants as state
 use Rattle.p8_lines.specs.Diagram.{choices}
 use Rattle.p8_declarations.specs.Parts.{Part, line_end, comma, colon, bar, left_parenthesis, right_parenthesis, name, part_of_word, parts}
 use Rattle.p8_declarations.specs.Variables.{variables}
@@ -84,7 +84,7 @@ local_names = record {
 
 module _ (public : Bool) (n : List ℕ) where
   -- locals, from a state where they, or the line's end, may stand
-  locals_back : (q : State) (f : MethodTree → List Part → Option MethodTree) (ns : List (List ℕ)) (r : Option (List ℕ)) (xs : List Declared)
+  locals_back : (q : LineState) (f : MethodTree → List Part → Option MethodTree) (ns : List (List ℕ)) (r : Option (List ℕ)) (xs : List Declared)
       → LeadsTo (choices q).arrows word_case.BitOr state.Local → LeadsTo (choices q).arrows word_case.LineEnd state.End
       → ((m : MethodTree) (ps : List Part) → f m (bar ∷ ps) ≡ behind_result m (bar ∷ ps)) → ((m : MethodTree) → f m (line_end ∷ []) ≡ Some m)
       → AllByRecursion (IsVariable in_method 4) xs → Back q (words_of_locals xs) (Makes f (made public n ns r []) (made public n ns r xs))
@@ -96,7 +96,7 @@ module _ (public : Bool) (n : List ℕ) where
       (names_back in_method state.Local state.LocalNamed state.LocalCount state.MoreLocals local_names 4 x xs h.0 h.1))
 
   -- the result and locals, from a state where they, or the line's end, may stand
-  result_back : (q : State) (f : MethodTree → List Part → Option MethodTree) (ns : List (List ℕ)) (r : Option (List ℕ)) (xs : List Declared)
+  result_back : (q : LineState) (f : MethodTree → List Part → Option MethodTree) (ns : List (List ℕ)) (r : Option (List ℕ)) (xs : List Declared)
       → LeadsTo (choices q).arrows word_case.Colon state.ResultName → LeadsTo (choices q).arrows word_case.BitOr state.Local → LeadsTo (choices q).arrows word_case.LineEnd state.End
       → ((m : MethodTree) (ps : List Part) → f m (colon ∷ ps) ≡ result_named m ps) → ((m : MethodTree) (ps : List Part) → f m (bar ∷ ps) ≡ behind_result m (bar ∷ ps)) → ((m : MethodTree) → f m (line_end ∷ []) ≡ Some m)
       → IsMaybeName r → AllByRecursion (IsVariable in_method 4) xs → Back q (words_of_result r ++ words_of_locals xs) (Makes f (made public n ns None []) (made public n ns r xs))

@@ -9,10 +9,10 @@ use Rattle.p8_tree.specs.Sources.{Instruction, Instr, Line}
 use Rattle.p8_lexer.specs.declared.word.Word.{Word}
 use Rattle.p8_lexer.specs.declared.word.Word.TheVariants as word
 use Rattle.p8_lexer.specs.Words.{spelling}
-use Rattle.p8_lines.specs.contracts.state.State.{the_type}
+use Rattle.p8_lines.specs.contracts.state.LineState.{the_type}
 use Rattle.p8_lines.specs.declared.arrow.Arrow.{Arrow}
-use Rattle.p8_lines.specs.declared.state.State.{State}
-use Rattle.p8_lines.specs.declared.state.State.TheVariants as state
+use Rattle.p8_lines.specs.declared.state.LineState.{LineState}
+use Rattle.p8_lines.specs.declared.state.LineState.TheVariants as state
 use Rattle.p8_lines.specs.Signs.{takes_two, is_on_memory, takes_one}
 use Rattle.p8_lines.specs.Diagram.{choices}
 use Rattle.p8_lines.specs.Tokens as tokens
@@ -27,7 +27,7 @@ use Rattle.p8_print.specs.DataWords.{instruction_word, is_call, source_with, wor
 use Rattle.p8_printed.proofs.Made.{made, IsInstruction, two, on_memory, one, call, return, nothing}
 use Rattle.p8_printed.proofs.Made as made_of
 use Rattle.p8_blocks.proofs.DataWords.{plain_part, two_part, memory_part, one_part}
-use Rattle.p8_printed.proofs.Going.{AreEnded, Going, by_arrow, on, at_end}
+use Rattle.p8_printed.proofs.Going.{AreEnded, Going, by_arrow, on_word, at_end}
 use Rattle.p8_printed.proofs.Operands.{plain_source, two_read, memory_read, one_read, none_read, call_read}
 
 -- The words of instructions are reserved, and none but CALL is CALL.
@@ -60,18 +60,18 @@ own_word w free = ap (λ o. unwrap_or o word.Nop) (spelled_back w (reserved_is w
 
 -- where the words of instructions lead
 
-abbrev leads : Option State → State → Bool
+abbrev leads : Option LineState → LineState → Bool
 leads None r = false
 leads (Some q) r = sameb the_type q r
 
-leads_there : (o : Option State) (r : State) → IsTrue (leads o r) → o ≡ Some r
+leads_there : (o : Option LineState) (r : LineState) → IsTrue (leads o r) → o ≡ Some r
 leads_there None r h = absurd cc
 leads_there (Some q) r h = ap (λ q. Some q) (same_true the_type (search rules) q r h)
 
-abbrev Lead : (Word → Bool) → List Arrow → State → Type 0
+abbrev Lead : (Word → Bool) → List Arrow → LineState → Type 0
 Lead class l r = (n : ℕ) (w : Word) → IsTrue (if class w then leads (target l w n) r else true)
 
-lead : (class : Word → Bool) (l : List Arrow) (r : State) → Lead class l r → (w : Word) (n : ℕ) → IsTrue (class w) → target l w n ≡ Some r
+lead : (class : Word → Bool) (l : List Arrow) (r : LineState) → Lead class l r → (w : Word) (n : ℕ) → IsTrue (class w) → target l w n ≡ Some r
 lead class l r h w n is = leads_there (target l w n) r (subst (λ b. IsTrue (if b then leads (target l w n) r else true)) is (h n w))
 
 -- these arrows have those of instructions
@@ -182,24 +182,24 @@ module _ (l : List Arrow) (starts : Starts l) where
   word_read i (t ∷ ts) (two w {c = c} {f = f} {d = d} {e = e} {p = p} {q = q} {b = b} h k wd we ef) are =
       let suit = suiting takes_two w (two_suits w) h in
       let m = are.0.word ∙ own_word w suit.0 in
-      on l t w state.Destination (other w t.place) (HasInstruction (made c w (Some d) p b (Some e) q f)) m (λ n. starts.two w n h) (two_part t w m h) refl
+      on_word l t w state.Destination (other w t.place) (HasInstruction (made c w (Some d) p b (Some e) q f)) m (λ n. starts.two w n h) (two_part t w m h) refl
       (two_read d b e f ts wd we ef (both_words w d b e f ts suit.1 are.1))
       (λ ps k. from_word (made c w (Some d) p b (Some e) q f) (made c w (Some k.first) k.first_place b (Some k.second) k.second_place f) w t.place ps (k.given c w t.place t.place) (same_operands c w d k.first e k.second p k.first_place q k.second_place b f k.first_same k.second_same))
   word_read i (t ∷ ts) (on_memory w {c = c} {f = f} {d = d} {e = e} {p = p} {q = q} {b = b} h k wd we ef) are =
       let suit = suiting is_on_memory w (memory_suits w) h in
       let m = are.0.word ∙ own_word w suit.0 in
-      on l t w state.MemoryDestination (other w t.place) (HasInstruction (made c w (Some d) p b (Some e) q f)) m (λ n. starts.memory w n h) (memory_part t w m h) refl
+      on_word l t w state.MemoryDestination (other w t.place) (HasInstruction (made c w (Some d) p b (Some e) q f)) m (λ n. starts.memory w n h) (memory_part t w m h) refl
       (memory_read d b e f ts wd we ef (both_words w d b e f ts suit.1 are.1))
       (λ ps k. from_word (made c w (Some d) p b (Some e) q f) (made c w (Some k.first) k.first_place b (Some k.second) k.second_place f) w t.place ps (k.given c w t.place t.place) (same_operands c w d k.first e k.second p k.first_place q k.second_place b f k.first_same k.second_same))
   word_read i (t ∷ ts) (one w {c = c} {f = f} {d = d} {p = p} {q = q} h k wd ef) are =
       let suit = suiting takes_one w (one_suits w) h in
       let m = are.0.word ∙ own_word w suit.0 in
-      on l t w state.OnlyDestination (other w t.place) (HasInstruction (made c w (Some d) p false None q f)) m (λ n. starts.one w n h) (one_part t w m h) refl
+      on_word l t w state.OnlyDestination (other w t.place) (HasInstruction (made c w (Some d) p false None q f)) m (λ n. starts.one w n h) (one_part t w m h) refl
       (one_read d f ts wd ef are.1)
       (λ ps k. from_word (made c w (Some d) p false None q f) (made c w (Some k.other) k.place false None t.place f) w t.place ps (k.given c w t.place t.place) (ap (λ d. made c w (Some d) anywhere false None anywhere f) k.same))
   word_read i (t ∷ ts) (made_of.jump {c = c} {f = f} {e = e} {p = p} {q = q} {b = b} k we ef) are =
       let m = are.0.word ∙ own_word word.Jmp refl in
-      on l t word.Jmp state.Source (jump t.place) (HasInstruction (made c word.Jmp None p b (Some e) q f)) m starts.jump (jump_part t m) refl
+      on_word l t word.Jmp state.Source (jump t.place) (HasInstruction (made c word.Jmp None p b (Some e) q f)) m starts.jump (jump_part t m) refl
       (plain_source b e f ts we ef are.1)
       (λ ps k. record {
         place = t.place;
@@ -211,16 +211,16 @@ module _ (l : List Arrow) (starts : Starts l) where
       })
   word_read i (t ∷ ts) (call {c = c} {f = f} {n = n} {p = p} {q = q} {r = r} k is ef) are =
       let m = are.0.word ∙ own_word word.Call refl in
-      on l t word.Call state.CallHash (other word.Call t.place) (HasInstruction (made c word.Call None p true (Some (label n q)) r f)) m starts.call (call_part t m) refl
+      on_word l t word.Call state.CallHash (other word.Call t.place) (HasInstruction (made c word.Call None p true (Some (label n q)) r f)) m starts.call (call_part t m) refl
       (call_read n q f ts is ef are.1)
       (λ ps k. from_word (made c word.Call None p true (Some (label n q)) r f) (made c word.Call None t.place true (Some (label n k.place)) k.place f) word.Call t.place ps (k.given c word.Call t.place t.place) refl)
   word_read i (t ∷ ts) (return {c = c} {f = f} {p = p} {q = q} k ef) are =
       let m = are.0.word ∙ own_word word.Ret refl in
-      on l t word.Ret state.Effects (other word.Ret t.place) (HasInstruction (made c word.Ret None p false None q f)) m starts.ret (ret_part t m) refl
+      on_word l t word.Ret state.Effects (other word.Ret t.place) (HasInstruction (made c word.Ret None p false None q f)) m starts.ret (ret_part t m) refl
       (none_read f ts ef are.1)
       (λ ps k. from_word (made c word.Ret None p false None q f) (made c word.Ret None t.place false None t.place f) word.Ret t.place ps (k.given c word.Ret t.place t.place) refl)
   word_read i (t ∷ ts) (nothing {c = c} {p = p} {q = q} k) are =
       let m = are.0.word ∙ own_word word.Nop refl in
-      on l t word.Nop state.LineEnd (other word.Nop t.place) (HasInstruction (made c word.Nop None p false None q 0)) m starts.nop (nop_part t m) refl
+      on_word l t word.Nop state.LineEnd (other word.Nop t.place) (HasInstruction (made c word.Nop None p false None q 0)) m starts.nop (nop_part t m) refl
       (by_arrow state.LineEnd refl (at_end (choices state.LineEnd).arrows ts {K = λ ps. ps ≡ []} are.1 (λ n. refl) refl))
       (λ ps k. from_word (made c word.Nop None p false None q 0) (made c word.Nop None t.place false None t.place 0) word.Nop t.place ps (ap (operands (made c word.Nop None t.place false None t.place 0)) k) refl)

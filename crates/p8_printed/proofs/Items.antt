@@ -10,8 +10,8 @@ use Rattle.p8_lexer.specs.Meanings.{word_by}
 use Rattle.p8_lexer.specs.Table.{rows}
 use Rattle.p8_grammar.specs.Lexemes.{in_dat, in_data_item}
 use Rattle.p8_lines.specs.declared.arrow.Arrow.{Arrow}
-use Rattle.p8_lines.specs.declared.state.State.{State}
-use Rattle.p8_lines.specs.declared.state.State.TheVariants as state
+use Rattle.p8_lines.specs.declared.state.LineState.{LineState}
+use Rattle.p8_lines.specs.declared.state.LineState.TheVariants as state
 use Rattle.p8_lines.specs.Diagram.{◌⇒◌, outer, choices}
 use Rattle.p8_lines.specs.Tokens as tokens
 use Rattle.p8_lines.specs.Tokens.{LineToken, piece}
@@ -25,7 +25,7 @@ use Rattle.p8_print.specs.DataWords.{words_of_datum, more_data, words_of_data}
 use Rattle.p8_printed.proofs.Readings.{IsRead, IsSize, byte_size, word_size, long_size}
 use Rattle.p8_printed.proofs.Made.{IfThere, IsDatum, AreData}
 use Rattle.p8_blocks.proofs.DataWords.{plain_part}
-use Rattle.p8_printed.proofs.Going.{AreEnded, Leading, Going, by_arrow, on, at_end, so, tree_read, behind_tree, with_phrase}
+use Rattle.p8_printed.proofs.Going.{AreEnded, Leading, Going, by_arrow, on_word, at_end, so, tree_read, behind_tree, with_phrase}
 use Rattle.p8_printed.proofs.Operands.{comma_part}
 
 left_bracket_part : (t : LineToken) → tokens.word t ≡ word.LeftBracket → part_of_piece (piece t) ≡ left_bracket
@@ -92,7 +92,7 @@ HasCounts c xs stage ps = (read : List Datum) (s : Option ℕ) (e : Tree) → Ha
 closing : (xs : List Datum) → ReadsMore xs → (ts : List LineToken) → AreEnded (reserved word.RightBracket ∷ more_data xs) ts → Going (word.RightBracket ⇒ state.MoreData ∷ []) ts (HasClosed xs counted)
 closing xs more [] are = absurd are
 closing xs more (t ∷ ts) are =
-    on (word.RightBracket ⇒ state.MoreData ∷ []) t word.RightBracket state.MoreData right_bracket (HasClosed xs counted) are.0.word (λ n. refl) (right_bracket_part t are.0.word) refl
+    on_word (word.RightBracket ⇒ state.MoreData ∷ []) t word.RightBracket state.MoreData right_bracket (HasClosed xs counted) are.0.word (λ n. refl) (right_bracket_part t are.0.word) refl
     (by_arrow state.MoreData refl (more (choices state.MoreData).arrows (λ n. refl) (λ n. refl) ts are.1))
     (λ ps k read s e c. k (over s e (Some c)) (datum s e (Some c)) (closed_is_whole s e c) read)
 
@@ -108,10 +108,10 @@ count_read None xs was more ts are =
 count_read (Some c) xs was more [] are = absurd are
 count_read (Some c) xs was more (t ∷ ts) are =
     let words = subst (λ ws. AreEnded ws ts) (append_assoc (wrapped c) (reserved word.RightBracket ∷ []) (more_data xs)) are.1 in
-    on behind_item t word.LeftBracket state.DataCount left_bracket (HasCounts (Some c) xs behind) are.0.word (λ n. refl) (left_bracket_part t are.0.word) refl (counting c xs was more ts words) (λ ps k. k)
+    on_word behind_item t word.LeftBracket state.DataCount left_bracket (HasCounts (Some c) xs behind) are.0.word (λ n. refl) (left_bracket_part t are.0.word) refl (counting c xs was more ts words) (λ ps k. k)
 
 -- a value, its count and the items after it
-value_read : (q : State) → (choices q).phrase ≡ Some (outer in_data_item behind_item) → (s : Option ℕ) (v : Tree) (c : Option Tree) (xs : List Datum) (K : List Part → Type 0) → IsRead in_data_item v → IfThere (IsRead in_dat) c → ReadsMore xs → (ts : List LineToken) → AreEnded ((wrapped v ++ words_of_count c) ++ more_data xs) ts → ((e : Tree) → IsSameTree e v → (ps : List Part) → HasCounts c xs behind ps → (p : Place) → K (tree e p ∷ ps)) → Leading q ts K
+value_read : (q : LineState) → (choices q).phrase ≡ Some (outer in_data_item behind_item) → (s : Option ℕ) (v : Tree) (c : Option Tree) (xs : List Datum) (K : List Part → Type 0) → IsRead in_data_item v → IfThere (IsRead in_dat) c → ReadsMore xs → (ts : List LineToken) → AreEnded ((wrapped v ++ words_of_count c) ++ more_data xs) ts → ((e : Tree) → IsSameTree e v → (ps : List Part) → HasCounts c xs behind ps → (p : Place) → K (tree e p ∷ ps)) → Leading q ts K
 value_read q some s v c xs K was counts more ts are f =
     let words = subst (λ ws. AreEnded ws ts) (append_assoc (wrapped v) (words_of_count c) (more_data xs)) are in
     let y = tree_read in_data_item v (words_of_count c ++ more_data xs) ts was words in
@@ -124,13 +124,13 @@ one_more s v e c xs read o same k = record {
   same = ap₂ (λ x xs. x ∷ xs) (ap₂ (λ e c. datum s e c) same k.same) k.given.same;
 }
 
-item_read : (q : State) → (choices q).phrase ≡ Some (outer in_data_item behind_item) → ((n m : ℕ) → IsSize n → target (choices q).arrows (size_word n) m ≡ Some state.DataValue) → (s : Option ℕ) (v : Tree) (c : Option Tree) (xs : List Datum) → IsDatum (datum s v c) → ReadsMore xs → (ts : List LineToken) → AreEnded (words_of_datum (datum s v c) ++ more_data xs) ts → Leading q ts (HasItems (datum s v c ∷ xs))
+item_read : (q : LineState) → (choices q).phrase ≡ Some (outer in_data_item behind_item) → ((n m : ℕ) → IsSize n → target (choices q).arrows (size_word n) m ≡ Some state.DataValue) → (s : Option ℕ) (v : Tree) (c : Option Tree) (xs : List Datum) → IsDatum (datum s v c) → ReadsMore xs → (ts : List LineToken) → AreEnded (words_of_datum (datum s v c) ++ more_data xs) ts → Leading q ts (HasItems (datum s v c ∷ xs))
 item_read q some goes None v c xs is more ts are =
     value_read q some None v c xs (HasItems (datum None v c ∷ xs)) is.value is.count more ts are
     (λ e same ps k p. record { given = λ read. one_more None v e c xs read (items read (behind None e) ps) same (k read None e); whole = refl })
 item_read q some goes (Some n) v c xs is more [] are = absurd are
 item_read q some goes (Some n) v c xs is more (t ∷ ts) are =
-    by_arrow q (with_phrase q some) (on (choices q).arrows t (size_word n) state.DataValue (size n t.place) (HasItems (datum (Some n) v c ∷ xs)) are.0.word (λ m. goes n m is.size) (size_part n t is.size are.0.word) refl
+    by_arrow q (with_phrase q some) (on_word (choices q).arrows t (size_word n) state.DataValue (size n t.place) (HasItems (datum (Some n) v c ∷ xs)) are.0.word (λ m. goes n m is.size) (size_part n t is.size are.0.word) refl
     (value_read state.DataValue refl (Some n) v c xs (λ ps. (read : List Datum) → Gives (datum (Some n) v c ∷ xs) read (items read (before (Some n)) ps)) is.value is.count more ts are.1
     (λ e same ps k p read. one_more (Some n) v e c xs read (items read (behind (Some n) e) ps) same (k read (Some n) e)))
     (λ ps k. record { given = k; whole = refl }))
@@ -152,7 +152,7 @@ more_read [] kinds l comes ends ts are =
     at_end l ts are ends (λ stage d whole read. record { others = []; is = whole.last read ∙ ap (λ xs. Some xs) (sym (append-nil (read ++ d ∷ []))); same = refl })
 more_read (x ∷ xs) kinds l comes ends [] are = absurd are
 more_read (x ∷ xs) kinds l comes ends (t ∷ ts) are =
-    on l t word.Comma state.Data comma (HasMore (x ∷ xs)) are.0.word comes (comma_part t are.0.word) refl
+    on_word l t word.Comma state.Data comma (HasMore (x ∷ xs)) are.0.word comes (comma_part t are.0.word) refl
     (item_read state.Data refl size_in_data x.size x.value x.count xs kinds.0 (more_read xs kinds.1) ts are.1)
     (λ ps k stage d whole read. gives_as (whole.next read ps) (k.given (read ++ d ∷ [])))
 

@@ -6,8 +6,8 @@ use Rattle.p8_lexer.specs.declared.word.Word.TheVariants as word_case
 use Rattle.p8_lexer.specs.Pieces.{Piece}
 use Rattle.p8_columns.specs.Lines.{Kind, Plain, Repeat, Line, line}
 use Rattle.p8_lines.specs.declared.arrow.Arrow.{Arrow}
-use Rattle.p8_lines.specs.declared.state.State.{State}
-use Rattle.p8_lines.specs.declared.state.State.TheVariants as state
+use Rattle.p8_lines.specs.declared.state.LineState.{LineState}
+use Rattle.p8_lines.specs.declared.state.LineState.TheVariants as state
 use Rattle.p8_lines.specs.Diagram.{choices}
 use Rattle.p8_lines.specs.Tokens.{LineToken, word}
 use Rattle.p8_lines.specs.Lines.{Follows, Leads, nowhere, by_token, by_phrase}
@@ -40,32 +40,32 @@ begins k = refl
 
 -- a line of a method has two tokens or more
 
-abbrev is_over : State → Bool
+abbrev is_over : LineState → Bool
 is_over state.End = true
 is_over _ = false
 
 abbrev goes_on : Arrow → Bool
 goes_on a = not (is_over a.to)
 
-all_go_on : (q : State) → IsTrue (begins_line q) → IsTrue (all_good goes_on (choices q).arrows)
+all_go_on : (q : LineState) → IsTrue (begins_line q) → IsTrue (all_good goes_on (choices q).arrows)
 all_go_on state.Statement h = refl
 all_go_on state.ChainLine h = refl
 all_go_on state.LoopEndLine h = refl
 all_go_on state.CaseItem h = refl
 all_go_on q h = absurd cc
 
-not_over : (q r : State) (t : LineToken) → IsTrue (begins_line q) → Follows (choices q).arrows t r → r ≡ state.End → ⊥
+not_over : (q r : LineState) (t : LineToken) → IsTrue (begins_line q) → Follows (choices q).arrows t r → r ≡ state.End → ⊥
 not_over q r t h f e =
     let x = taken goes_on f (all_go_on q h) in
     let y : IsTrue (not (is_over state.End)) = subst (λ r. IsTrue (not (is_over r))) (x.goes ∙ e) x.good in
     cc
 
-none_lead : {q r : State} {row : List Piece} {us : List LineToken} → Leads q us row r → us ≡ [] → q ≡ r
+none_lead : {q r : LineState} {row : List Piece} {us : List LineToken} → Leads q us row r → us ≡ [] → q ≡ r
 none_lead nowhere e = refl
 none_lead (by_token f y) e = absurd cc
 none_lead (by_phrase others p x le f y) e = absurd cc
 
-not_one : {q r : State} {row : List Piece} {us : List LineToken} (t : LineToken) → IsTrue (begins_line q) → Leads q us row r → us ≡ t ∷ [] → r ≡ state.End → ⊥
+not_one : {q r : LineState} {row : List Piece} {us : List LineToken} (t : LineToken) → IsTrue (begins_line q) → Leads q us row r → us ≡ t ∷ [] → r ≡ state.End → ⊥
 not_one t h nowhere e i = absurd cc
 not_one t h (by_token {q = q} {r = r} {t = u} {ts = ts} f y) e i = let none : ts ≡ [] = cc in not_over q r u h f (none_lead y none ∙ i)
 not_one t h (by_phrase [] p x le f y) e i = absurd cc

@@ -11,7 +11,7 @@ use Rattle.p8_lexer.specs.declared.piece.Class.TheVariants as class
 use Rattle.p8_lexer.specs.declared.token.Token as token
 use Rattle.p8_lexer.specs.Lexing.{is_in, longest_file, AreTokens}
 use Rattle.p8_lexer.specs.Words.{spelling}
-use Rattle.p8_lines.specs.declared.state.State.TheVariants as state
+use Rattle.p8_lines.specs.declared.state.LineState.TheVariants as state
 use Rattle.p8_lines.specs.Diagram.{choices}
 use Rattle.p8_lines.specs.Tokens as tokens
 use Rattle.p8_lines.specs.Tokens.{LineToken, line_token, string_length, text_end, all_tokens, piece}

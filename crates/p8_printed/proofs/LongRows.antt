@@ -14,10 +14,10 @@ use Rattle.p8_grammar.specs.Grammar.{IsExpression, a_number, operand, a_word as 
 use Rattle.p8_expr.specs.Words.{lexeme_by_kind}
 use Rattle.p8_lexer.specs.Pieces as pieces
 use Rattle.p8_lexer.specs.Pieces.{Piece}
-use Rattle.p8_lines.specs.contracts.state.State.{the_type}
+use Rattle.p8_lines.specs.contracts.state.LineState.{the_type}
 use Rattle.p8_lines.specs.declared.arrow.Arrow.{Arrow}
-use Rattle.p8_lines.specs.declared.state.State.{State}
-use Rattle.p8_lines.specs.declared.state.State.TheVariants as state
+use Rattle.p8_lines.specs.declared.state.LineState.{LineState}
+use Rattle.p8_lines.specs.declared.state.LineState.TheVariants as state
 use Rattle.p8_lines.specs.Signs.{is_condition}
 use Rattle.p8_lines.specs.Diagram.{◌⇒◌, outer, choices}
 use Rattle.p8_lines.specs.Tokens as tokens
@@ -29,7 +29,7 @@ use Rattle.p8_declarations.specs.Lines.{bare, operands, source, behind_hash, beh
 use Rattle.p8_print.specs.DataWords.{words_of_effects}
 use Rattle.p8_printed.proofs.Made.{made, condition_number, IsEffects, some_effects, IsFlags, some_flags, sixteen}
 use Rattle.p8_blocks.proofs.DataWords.{plain_part, two_part, memory_part, condition_part}
-use Rattle.p8_printed.proofs.Going.{AreEnded, Leading, Going, by_arrow, on, at_end, so, with_phrase}
+use Rattle.p8_printed.proofs.Going.{AreEnded, Leading, Going, by_arrow, on_word, at_end, so, with_phrase}
 use Rattle.p8_printed.proofs.Effects.{HasEffects, behind_operands, behind_memory, effects_read, flags_read}
 use Rattle.p8_printed.proofs.Operands.{hash_part, comma_part, ReadsEffects}
 use Rattle.p8_printed.proofs.InstructionsRead.{Starts, line_starts, conditioned_starts}
@@ -50,12 +50,12 @@ number_lexeme t v e = ap (lexeme_by_kind t.text (tokens.word t)) e
 number_is : (t : LineToken) (v : ℕ) → t.kind ≡ kind.Number v → IsExpression in_dat (node t.place (Number v)) (terms (t ∷ []))
 number_is t v e = subst (λ x. IsExpression in_dat (node t.place (Number v)) (token t.place x ∷ [])) (sym (number_lexeme t v e)) (operand (a_number refl) (spells_word nothing))
 
-either_way : (b : Bool) (l : List Arrow) {t : LineToken} {r : State} → Follows l t r → Follows (if b then l else l) t r
+either_way : (b : Bool) (l : List Arrow) {t : LineToken} {r : LineState} → Follows l t r → Follows (if b then l else l) t r
 either_way true l f = f
 either_way false l f = f
 
 -- a number where an expression stands, and what is after it
-behind_number : (q : State) (l : List Arrow) (v : ℕ) (t : LineToken) (us : List LineToken) {K : List Part → Type 0} (K' : List Part → Type 0) → (choices q).phrase ≡ Some (outer in_dat l) → t.kind ≡ kind.Number v → Going l us K → ((ps : List Part) → K ps → K' (tree (node t.place (Number v)) t.place ∷ ps)) → Leading q (t ∷ us) K'
+behind_number : (q : LineState) (l : List Arrow) (v : ℕ) (t : LineToken) (us : List LineToken) {K : List Part → Type 0} (K' : List Part → Type 0) → (choices q).phrase ≡ Some (outer in_dat l) → t.kind ≡ kind.Number v → Going l us K → ((ps : List Part) → K ps → K' (tree (node t.place (Number v)) t.place ∷ ps)) → Leading q (t ∷ us) K'
 behind_number q l v t us K' some e g f =
     let row = pieces.tree (node t.place (Number v)) t.place ∷ piece g.token ∷ g.row in
     let leads = by_phrase [] some (number_is t v e) (omega arith) (either_way (is_name (t ∷ [])) l g.follows) g.leads in
@@ -75,27 +75,27 @@ record HasBoth (d : ℕ) (b : Bool) (e f : ℕ) (ps : List Part) : Type 0 where
   given : (c : ℕ) (w : Word) (p q : Place) → operands (made c w None p false None q 0) ps ≡ Some (made c w (Some (node first (Number d))) first b (Some (node second (Number e))) second f)
 
 module _ (E : ℕ → Type 0) (l : List Arrow) (reads : ReadsEffects E l) where
-  number_read : (q : State) (b : Bool) (read : Instruction → List Part → Option Instruction) → (choices q).phrase ≡ Some (outer in_dat l) → (v f : ℕ) → E f → (ts : List LineToken) → Numbered v (AreEnded (words_of_effects f)) ts
+  number_read : (q : LineState) (b : Bool) (read : Instruction → List Part → Option Instruction) → (choices q).phrase ≡ Some (outer in_dat l) → (v f : ℕ) → E f → (ts : List LineToken) → Numbered v (AreEnded (words_of_effects f)) ts
       → ((p : Place) (ps : List Part) → HasEffects f ps → HasSource b v f read (tree (node p (Number v)) p ∷ ps)) → Leading q ts (HasSource b v f read)
   number_read q b read some v f ef ts n given =
       subst (λ ts. Leading q ts (HasSource b v f read)) (sym n.is)
       (behind_number q l v n.token n.others (HasSource b v f read) some n.kind (reads f n.others ef n.rest) (given n.token.place))
 
-  source_read : (q r : State) → (choices q).phrase ≡ Some (outer in_dat l) → (choices r).phrase ≡ Some (outer in_dat l) → ((n : ℕ) → target (choices q).arrows word.Hash n ≡ Some r) → (b : Bool) (v f : ℕ) → E f → (ts : List LineToken) → SourceOf b v f ts → Leading q ts (HasSource b v f source)
+  source_read : (q r : LineState) → (choices q).phrase ≡ Some (outer in_dat l) → (choices r).phrase ≡ Some (outer in_dat l) → ((n : ℕ) → target (choices q).arrows word.Hash n ≡ Some r) → (b : Bool) (v f : ℕ) → E f → (ts : List LineToken) → SourceOf b v f ts → Leading q ts (HasSource b v f source)
   source_read q r some value goes false v f ef ts h =
       number_read q false source some v f ef ts h (λ p ps k. record { place = p; given = λ c w d p' q'. k.given c w d p' false (Some (node p (Number v))) p })
   source_read q r some value goes true v f ef ts h =
       subst (λ ts. Leading q ts (HasSource true v f source)) (sym h.is)
-      (by_arrow q (with_phrase q some) (on (choices q).arrows h.token word.Hash r hash (HasSource true v f source) h.word_is goes (hash_part h.token h.word_is) refl
+      (by_arrow q (with_phrase q some) (on_word (choices q).arrows h.token word.Hash r hash (HasSource true v f source) h.word_is goes (hash_part h.token h.word_is) refl
       (number_read r true behind_hash value v f ef h.others h.rest (λ p ps k. record { place = p; given = λ c w d p' q'. k.given c w d p' true (Some (node p (Number v))) p }))
       (λ ps k. record { place = k.place; given = k.given })))
 
-both_read : (q r : State) → (choices q).phrase ≡ Some (outer in_dat (word.Comma ⇒ r ∷ [])) → (d : ℕ) (b : Bool) (e f : ℕ) (ts : List LineToken) → Numbered d (Worded word.Comma (SourceOf b e f)) ts → ((us : List LineToken) → SourceOf b e f us → Leading r us (HasSource b e f source)) → Leading q ts (HasBoth d b e f)
+both_read : (q r : LineState) → (choices q).phrase ≡ Some (outer in_dat (word.Comma ⇒ r ∷ [])) → (d : ℕ) (b : Bool) (e f : ℕ) (ts : List LineToken) → Numbered d (Worded word.Comma (SourceOf b e f)) ts → ((us : List LineToken) → SourceOf b e f us → Leading r us (HasSource b e f source)) → Leading q ts (HasBoth d b e f)
 both_read q r some d b e f ts n next =
     let h = n.rest in
     let l = word.Comma ⇒ r ∷ [] in
     let second : Going l (h.token ∷ h.others) (HasSource b e f behind_destination)
-    = on l h.token word.Comma r comma (HasSource b e f behind_destination) h.word_is (λ n. refl) (comma_part h.token h.word_is) refl (next h.others h.rest) (λ ps k. record { place = k.place; given = k.given }) in
+    = on_word l h.token word.Comma r comma (HasSource b e f behind_destination) h.word_is (λ n. refl) (comma_part h.token h.word_is) refl (next h.others h.rest) (λ ps k. record { place = k.place; given = k.given }) in
     subst (λ ts. Leading q ts (HasBoth d b e f)) (sym n.is)
     (behind_number q l d n.token n.others (HasBoth d b e f) some n.kind (subst (λ us. Going l us (HasSource b e f behind_destination)) (sym h.is) second)
     (λ ps k. record { first = n.token.place; second = k.place; given = λ c w p q. k.given c w (Some (node n.token.place (Number d))) n.token.place q }))
@@ -137,13 +137,13 @@ module _ (l : List Arrow) (starts : Starts l) (i : instr.Instr) (w : Word) where
   instruction_read true low is ts h =
       let flags : IsFlags (effects_of i) = subst (λ b. IsFlags (effects_by (writes_z i) (writes_c i) b (writes_result i))) (sym low) (flags_are (writes_z i) (writes_c i) (writes_result i)) in
       subst (λ ts. Going l ts (HasInstruction i w)) (sym h.is)
-      (on l h.token w state.MemoryDestination (other w h.token.place) (HasInstruction i w) h.word_is (λ n. starts.memory w n is) (memory_part h.token w h.word_is is) refl
+      (on_word l h.token w state.MemoryDestination (other w h.token.place) (HasInstruction i w) h.word_is (λ n. starts.memory w n is) (memory_part h.token w h.word_is is) refl
       (both_read state.MemoryDestination state.MemorySource refl i.dest (is_immediate i) i.source (effects_of i) h.others h.rest
       (λ us k. source_read IsFlags behind_memory flags_read state.MemorySource state.MemorySourceValue refl refl (λ n. refl) (is_immediate i) i.source (effects_of i) flags us k))
       (λ ps k. from_operands i w h.token.place ps k))
   instruction_read false low is ts h =
       subst (λ ts. Going l ts (HasInstruction i w)) (sym h.is)
-      (on l h.token w state.Destination (other w h.token.place) (HasInstruction i w) h.word_is (λ n. starts.two w n is) (two_part h.token w h.word_is is) refl
+      (on_word l h.token w state.Destination (other w h.token.place) (HasInstruction i w) h.word_is (λ n. starts.two w n is) (two_part h.token w h.word_is is) refl
       (both_read state.Destination state.Source refl i.dest (is_immediate i) i.source (effects_of i) h.others h.rest
       (λ us k. source_read IsEffects behind_operands effects_read state.Source state.SourceValue refl refl (λ n. refl) (is_immediate i) i.source (effects_of i) (effects_are (writes_z i) (writes_c i) (nat_lt i.opcode 3) (writes_result i)) us k))
       (λ ps k. from_operands i w h.token.place ps k))
@@ -158,11 +158,11 @@ pub record HasLine (x : Place → Place → Instruction) (ps : List Part) : Type
 
 -- where the words of conditions lead
 
-abbrev leads : Option State → State → Bool
+abbrev leads : Option LineState → LineState → Bool
 leads None r = false
 leads (Some q) r = sameb the_type q r
 
-leads_there : (o : Option State) (r : State) → IsTrue (leads o r) → o ≡ Some r
+leads_there : (o : Option LineState) (r : LineState) → IsTrue (leads o r) → o ≡ Some r
 leads_there None r h = absurd cc
 leads_there (Some q) r h = ap (λ q. Some q) (same_true the_type (search rules) q r h)
 
@@ -205,7 +205,7 @@ module _ (i : instr.Instr) (named : WordFor (has_class (nat_lt i.opcode 3)) (wor
   line_row ts (conditional c is h) =
       let y = condition_is i.cond c is in
       subst (λ ts. Going (choices state.DatLine).arrows ts (HasLine (printed_line i))) (sym h.is)
-      (on (choices state.DatLine).arrows h.token c state.Conditioned (condition (condition_number c)) (HasLine (printed_line i)) h.word_is (λ n. condition_leads c n y.0) (condition_part h.token c h.word_is y.0) refl
+      (on_word (choices state.DatLine).arrows h.token c state.Conditioned (condition (condition_number c)) (HasLine (printed_line i)) h.word_is (λ n. condition_leads c n y.0) (condition_part h.token c h.word_is y.0) refl
       (by_arrow state.Conditioned refl (instruction_read (choices state.Conditioned).arrows conditioned_starts i named.word (nat_lt i.opcode 3) refl named.kind h.others h.rest))
       (λ ps k. under_condition c ps y.1 k))
 
@@ -227,6 +227,6 @@ nop_given p ps e = record {
 pub nop_row : (ts : List LineToken) → Worded word.Nop (AreEnded []) ts → Going (choices state.DatLine).arrows ts (HasLine (read_line 0))
 nop_row ts h =
     subst (λ ts. Going (choices state.DatLine).arrows ts (HasLine (read_line 0))) (sym h.is)
-    (on (choices state.DatLine).arrows h.token word.Nop state.LineEnd (other word.Nop h.token.place) (HasLine (read_line 0)) h.word_is (λ n. refl) (nop_part h.token h.word_is) refl
+    (on_word (choices state.DatLine).arrows h.token word.Nop state.LineEnd (other word.Nop h.token.place) (HasLine (read_line 0)) h.word_is (λ n. refl) (nop_part h.token h.word_is) refl
     (by_arrow state.LineEnd refl (at_end (choices state.LineEnd).arrows h.others {K = λ ps. ps ≡ []} h.rest (λ n. refl) refl))
     (λ ps e. nop_given h.token.place ps e))

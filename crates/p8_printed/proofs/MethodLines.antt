@@ -19,8 +19,8 @@ use Rattle.p8_expr.specs.Words.{lexeme_of_word}
 use Rattle.p8_columns.specs.Lines.{Kind, Plain, If, ElseIf, Else, Repeat, End, Case, Item as ItemLine, Other}
 use Rattle.p8_lexer.specs.Pieces.{Piece, word, tree}
 use Rattle.p8_lines.specs.declared.arrow.Arrow.{Arrow}
-use Rattle.p8_lines.specs.declared.state.State.{State}
-use Rattle.p8_lines.specs.declared.state.State.TheVariants as state
+use Rattle.p8_lines.specs.declared.state.LineState.{LineState}
+use Rattle.p8_lines.specs.declared.state.LineState.TheVariants as state
 use Rattle.p8_lines.specs.Diagram.{Phrase, ◌⇒◌, outer, counting, choices}
 use Rattle.p8_lines.specs.Tokens as tokens
 use Rattle.p8_lines.specs.Tokens.{LineToken, terms, piece}
@@ -102,14 +102,14 @@ Is k row = (k' : Kind) × (kind_of_row row ≡ Some k') × (kind_anywhere k' ≡
 
 -- a word alone, and a word with a value
 
-alone : (q r : State) → is_labelled q ≡ false → (w : Word) (k : Kind) → is_free w ≡ false → LeadsTo (choices q).arrows w r → LeadsTo (choices r).arrows word_case.LineEnd state.End
+alone : (q r : LineState) → is_labelled q ≡ false → (w : Word) (k : Kind) → is_free w ≡ false → LeadsTo (choices q).arrows w r → LeadsTo (choices r).arrows word_case.LineEnd state.End
     → ((p o : Place) → kind_of_row (word w p ∷ word word_case.LineEnd o ∷ []) ≡ Some k) → RowBack true q (reserved w ∷ []) (Is k)
 alone q r unlabelled w k free to end is = a_word q r unlabelled w free to (ends r end (λ o p. (k, is p o, refl)))
 
 abbrev AtEnd : Phrase
 AtEnd = outer in_method (word_case.LineEnd ⇒ state.End ∷ [])
 
-valued : (q r : State) → is_labelled q ≡ false → (w : Word) (f : Tree → Kind) (e : Tree) → is_free w ≡ false → LeadsTo (choices q).arrows w r → (choices r).phrase ≡ Some AtEnd → IsValue e
+valued : (q r : LineState) → is_labelled q ≡ false → (w : Word) (f : Tree → Kind) (e : Tree) → is_free w ≡ false → LeadsTo (choices q).arrows w r → (choices r).phrase ≡ Some AtEnd → IsValue e
     → ((e' : Tree) (p p' o : Place) → kind_of_row (word w p ∷ tree e' p' ∷ word word_case.LineEnd o ∷ []) ≡ Some (f e'))
     → ((e' : Tree) → tree_anywhere e' ≡ tree_anywhere e → kind_anywhere (f e') ≡ kind_anywhere (f e)) → RowBack true q (reserved w ∷ wrapped e) (Is (f e))
 valued q r unlabelled w f e free to some y is same = a_word q r unlabelled w free to (last r AtEnd e some y (λ n. refl) (λ e' s p o p'. (f e', is e' p' p o, same e' s)))
@@ -255,7 +255,7 @@ abbrev LastOfRange : Phrase
 LastOfRange = outer in_method (word_case.Comma ⇒ state.CaseTest ∷ word_case.Colon ⇒ state.End ∷ [])
 
 -- where a test may begin
-abbrev BeginsTest : State → Type 0
+abbrev BeginsTest : LineState → Type 0
 BeginsTest q = (choices q).phrase ≡ Some Tested
 
 -- after tests that are these but for places, a row goes on so that it has all of them
@@ -264,20 +264,20 @@ Gives all xs row = (ys : Items) → items_anywhere ys ≡ items_anywhere xs
     → (is_item row ≡ true) × (zs : Items) × (tests_after ys None row ≡ Some zs) × (items_anywhere zs ≡ items_anywhere all)
 
 -- a test, a mark and what stands after them
-single_back : (all xs : Items) (e : Tree) (ws : List Spelled) → IsValue e → RowBack false state.CaseTest ws (Gives all (xs ▸ single e)) → (q : State) → BeginsTest q → RowBack false q (wrapped e ++ comma_word ∷ ws) (Gives all xs)
+single_back : (all xs : Items) (e : Tree) (ws : List Spelled) → IsValue e → RowBack false state.CaseTest ws (Gives all (xs ▸ single e)) → (q : LineState) → BeginsTest q → RowBack false q (wrapped e ++ comma_word ∷ ws) (Gives all xs)
 unfolding role_of
 single_back all xs e ws h b q at =
     before q state.CaseTest Tested e word_case.Comma at h refl (λ n. refl)
     (weaker (λ row g o e' s p ys same. let x = g (ys ▸ single e') (λ i. same i ▸ single (s i)) in (refl, x.1, x.2, x.3)) b)
 
-range_back : (all xs : Items) (low high : Tree) (ws : List Spelled) → IsValue low → IsValue high → RowBack false state.CaseTest ws (Gives all (xs ▸ range low high)) → (q : State) → BeginsTest q → RowBack false q (wrapped low ++ dots_word ∷ (wrapped high ++ comma_word ∷ ws)) (Gives all xs)
+range_back : (all xs : Items) (low high : Tree) (ws : List Spelled) → IsValue low → IsValue high → RowBack false state.CaseTest ws (Gives all (xs ▸ range low high)) → (q : LineState) → BeginsTest q → RowBack false q (wrapped low ++ dots_word ∷ (wrapped high ++ comma_word ∷ ws)) (Gives all xs)
 unfolding role_of
 range_back all xs low high ws h k b q at =
     before q state.CaseRange Tested low word_case.DotDot at h refl (λ n. refl)
     (before state.CaseRange state.CaseTest LastOfRange high word_case.Comma refl k refl (λ n. refl)
     (weaker (λ row g o' high' t p' o low' s p ys same. let x = g (ys ▸ range low' high') (λ i. same i ▸ range (s i) (t i)) in (refl, x.1, x.2, x.3)) b))
 
-tests_back : (all xs : Items) (ws : List Spelled) → AreTests xs → ((q : State) → BeginsTest q → RowBack false q ws (Gives all xs)) → (q : State) → BeginsTest q → RowBack false q (tests_before xs ++ ws) (Gives all no_items)
+tests_back : (all xs : Items) (ws : List Spelled) → AreTests xs → ((q : LineState) → BeginsTest q → RowBack false q ws (Gives all xs)) → (q : LineState) → BeginsTest q → RowBack false q (tests_before xs ++ ws) (Gives all no_items)
 tests_back all no_items ws h k q at = k q at
 tests_back all (xs ▸ single e) ws h k q at =
     same_words

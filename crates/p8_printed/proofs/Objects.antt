@@ -14,7 +14,7 @@ use Rattle.p8_lexer.specs.Lexing.{is_in}
 use Rattle.p8_grammar.specs.Lexemes as lexemes
 use Rattle.p8_grammar.specs.Lexemes.{in_declaration}
 use Rattle.p8_expr.specs.Words.{between_quotes}
-use Rattle.p8_lines.specs.declared.state.State.TheVariants as state
+use Rattle.p8_lines.specs.declared.state.LineState.TheVariants as state
 use Rattle.p8_lines.specs.Diagram.{choices}
 use Rattle.p8_lines.specs.Tokens.{LineToken}
 use Rattle.p8_lines.specs.Lines.{Follows, here}

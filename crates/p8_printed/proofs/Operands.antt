@@ -8,8 +8,8 @@ use Rattle.p8_lexer.specs.declared.word.Word.{Word}
 use Rattle.p8_lexer.specs.declared.word.Word.TheVariants as word
 use Rattle.p8_grammar.specs.Lexemes.{in_dat}
 use Rattle.p8_lines.specs.declared.arrow.Arrow.{Arrow}
-use Rattle.p8_lines.specs.declared.state.State.{State}
-use Rattle.p8_lines.specs.declared.state.State.TheVariants as state
+use Rattle.p8_lines.specs.declared.state.LineState.{LineState}
+use Rattle.p8_lines.specs.declared.state.LineState.TheVariants as state
 use Rattle.p8_lines.specs.Diagram.{◌⇒◌, outer, choices}
 use Rattle.p8_lines.specs.Tokens as tokens
 use Rattle.p8_lines.specs.Tokens.{LineToken, piece}
@@ -24,7 +24,7 @@ use Rattle.p8_printed.proofs.Readings.{IsRead}
 use Rattle.p8_printed.proofs.Made.{IsLabel, plain, behind_colon, IsEffects, IsFlags, made}
 use Rattle.p8_blocks.proofs.DataWords.{plain_part}
 use Rattle.p8_printed.proofs.DataNames.{part_of_name, name_words}
-use Rattle.p8_printed.proofs.Going.{AreEnded, Leading, Going, by_arrow, with_phrase, by_label, on, tree_read, behind_tree}
+use Rattle.p8_printed.proofs.Going.{AreEnded, Leading, Going, by_arrow, with_phrase, by_label, on_word, tree_read, behind_tree}
 use Rattle.p8_printed.proofs.Effects.{HasEffects, behind_operands, behind_memory, effects_read, flags_read}
 
 pub hash_part : (t : LineToken) → tokens.word t ≡ word.Hash → part_of_piece (piece t) ≡ hash
@@ -51,20 +51,20 @@ abbrev pub ReadsEffects : (ℕ → Type 0) → List Arrow → Type 0
 ReadsEffects E l = (f : ℕ) (ts : List LineToken) → E f → AreEnded (words_of_effects f) ts → Going l ts (HasEffects f)
 
 module _ (E : ℕ → Type 0) (l : List Arrow) (reads : ReadsEffects E l) where
-  value_read : (v : State) → (choices v).phrase ≡ Some (outer in_dat l) → (e : Tree) (f : ℕ) (ts : List LineToken) → IsRead in_dat e → E f → AreEnded (wrapped e ++ words_of_effects f) ts → Leading v ts (HasSource true e f behind_hash)
+  value_read : (v : LineState) → (choices v).phrase ≡ Some (outer in_dat l) → (e : Tree) (f : ℕ) (ts : List LineToken) → IsRead in_dat e → E f → AreEnded (wrapped e ++ words_of_effects f) ts → Leading v ts (HasSource true e f behind_hash)
   value_read v some e f ts was ef are =
       let y = tree_read in_dat e (words_of_effects f) ts was are in
       behind_tree v in_dat l (HasSource true e f behind_hash) some y (reads f y.right ef y.rest)
       (λ ps k. record { other = y.other; place = y.first.place; same = y.same; given = λ c w d p q. k.given c w d p true (Some y.other) y.first.place })
 
-  source_read : (q v : State) → (choices q).phrase ≡ Some (outer in_dat l) → (choices v).phrase ≡ Some (outer in_dat l) → ((n : ℕ) → target (choices q).arrows word.Hash n ≡ Some v) → (b : Bool) (e : Tree) (f : ℕ) (ts : List LineToken) → IsRead in_dat e → E f → AreEnded (source_with false b e ++ words_of_effects f) ts → Leading q ts (HasSource b e f source)
+  source_read : (q v : LineState) → (choices q).phrase ≡ Some (outer in_dat l) → (choices v).phrase ≡ Some (outer in_dat l) → ((n : ℕ) → target (choices q).arrows word.Hash n ≡ Some v) → (b : Bool) (e : Tree) (f : ℕ) (ts : List LineToken) → IsRead in_dat e → E f → AreEnded (source_with false b e ++ words_of_effects f) ts → Leading q ts (HasSource b e f source)
   source_read q v some value goes false e f ts was ef are =
       let y = tree_read in_dat e (words_of_effects f) ts was are in
       behind_tree q in_dat l (HasSource false e f source) some y (reads f y.right ef y.rest)
       (λ ps k. record { other = y.other; place = y.first.place; same = y.same; given = λ c w d p q. k.given c w d p false (Some y.other) y.first.place })
   source_read q v some value goes true e f [] was ef are = absurd are
   source_read q v some value goes true e f (t ∷ ts) was ef are =
-      by_arrow q (with_phrase q some) (on (choices q).arrows t word.Hash v hash (HasSource true e f source) are.0.word goes (hash_part t are.0.word) refl (value_read v value e f ts was ef are.1)
+      by_arrow q (with_phrase q some) (on_word (choices q).arrows t word.Hash v hash (HasSource true e f source) are.0.word goes (hash_part t are.0.word) refl (value_read v value e f ts was ef are.1)
       (λ ps k. record { other = k.other; place = k.place; same = k.same; given = k.given }))
 
 -- a destination and a source
@@ -81,7 +81,7 @@ pub record HasBoth (d : Tree) (b : Bool) (e : Tree) (f : ℕ) (ps : List Part) :
 abbrev HasSecond : Bool → Tree → ℕ → List Part → Type 0
 HasSecond b e f ps = HasSource b e f behind_destination ps
 
-both_read : (q r : State) → (choices q).phrase ≡ Some (outer in_dat (word.Comma ⇒ r ∷ [])) → (d : Tree) (b : Bool) (e : Tree) (f : ℕ) (ts : List LineToken) → IsRead in_dat d → AreEnded (wrapped d ++ reserved word.Comma ∷ (source_with false b e ++ words_of_effects f)) ts → ((us : List LineToken) → AreEnded (source_with false b e ++ words_of_effects f) us → Leading r us (HasSource b e f source)) → Leading q ts (HasBoth d b e f)
+both_read : (q r : LineState) → (choices q).phrase ≡ Some (outer in_dat (word.Comma ⇒ r ∷ [])) → (d : Tree) (b : Bool) (e : Tree) (f : ℕ) (ts : List LineToken) → IsRead in_dat d → AreEnded (wrapped d ++ reserved word.Comma ∷ (source_with false b e ++ words_of_effects f)) ts → ((us : List LineToken) → AreEnded (source_with false b e ++ words_of_effects f) us → Leading r us (HasSource b e f source)) → Leading q ts (HasBoth d b e f)
 both_read q r some d b e f ts was are next =
     let y = tree_read in_dat d (reserved word.Comma ∷ (source_with false b e ++ words_of_effects f)) ts was are in
     behind_tree q in_dat (word.Comma ⇒ r ∷ []) (HasBoth d b e f) some y (behind y.right y.rest)
@@ -89,7 +89,7 @@ both_read q r some d b e f ts was are next =
   where
     behind : (us : List LineToken) → AreEnded (reserved word.Comma ∷ (source_with false b e ++ words_of_effects f)) us → Going (word.Comma ⇒ r ∷ []) us (HasSecond b e f)
     behind [] are = absurd are
-    behind (t ∷ us) are = on (word.Comma ⇒ r ∷ []) t word.Comma r comma (HasSecond b e f) are.0.word (λ n. refl) (comma_part t are.0.word) refl (next us are.1) (λ ps k. record { other = k.other; place = k.place; same = k.same; given = k.given })
+    behind (t ∷ us) are = on_word (word.Comma ⇒ r ∷ []) t word.Comma r comma (HasSecond b e f) are.0.word (λ n. refl) (comma_part t are.0.word) refl (next us are.1) (λ ps k. record { other = k.other; place = k.place; same = k.same; given = k.given })
 
 pub plain_source : (b : Bool) (e : Tree) (f : ℕ) (ts : List LineToken) → IsRead in_dat e → IsEffects f → AreEnded (source_with false b e ++ words_of_effects f) ts → Leading state.Source ts (HasSource b e f source)
 plain_source b e f ts was ef are = source_read IsEffects behind_operands effects_read state.Source state.SourceValue refl refl (λ n. refl) b e f ts was ef are
@@ -137,7 +137,7 @@ label_read n f ts (plain is) ef are = go ts (subst (λ ws. AreEnded (ws ++ words
     go : (ts : List LineToken) → AreEnded (spelled.name n ∷ words_of_effects f) ts → Leading state.CallLabel ts (HasLabel n f behind_hash)
     go [] are = absurd are
     go (t ∷ ts) are =
-        by_arrow state.CallLabel refl (on (choices state.CallLabel).arrows t word.Name state.Effects (name n t.place) (HasLabel n f behind_hash) are.0.word (λ m. refl) (part_of_name n t is are.0) refl (effects_behind f ts ef are.1)
+        by_arrow state.CallLabel refl (on_word (choices state.CallLabel).arrows t word.Name state.Effects (name n t.place) (HasLabel n f behind_hash) are.0.word (λ m. refl) (part_of_name n t is are.0) refl (effects_behind f ts ef are.1)
         (λ ps k. record { place = t.place; given = λ c w p q. k.given c w None p true (Some (label n t.place)) t.place }))
 label_read n f [] (behind_colon is) ef are = absurd are
 label_read n f (t ∷ []) (behind_colon is) ef are = absurd are.1
@@ -145,11 +145,11 @@ label_read n f (t ∷ u ∷ ts) (behind_colon {n = m} is) ef are =
     let name_goes : Leading state.CallLocal (u ∷ ts) (λ ps. HasLabel (local m) f behind_hash (colon t.place ∷ ps))
     = by_label state.CallLocal state.Effects refl refl m u (λ ps. HasLabel (local m) f behind_hash (colon t.place ∷ ps)) is are.1.0 (effects_behind f ts ef are.1.1)
     (λ ps k. record { place = t.place; given = λ c w p q. k.given c w None p true (Some (label (local m) t.place)) t.place }) in
-    by_arrow state.CallLabel refl (on (choices state.CallLabel).arrows t word.Colon state.CallLocal (colon t.place) (HasLabel (local m) f behind_hash) are.0.word (λ m. refl) (colon_part t are.0.word) refl name_goes (λ ps k. k))
+    by_arrow state.CallLabel refl (on_word (choices state.CallLabel).arrows t word.Colon state.CallLocal (colon t.place) (HasLabel (local m) f behind_hash) are.0.word (λ m. refl) (colon_part t are.0.word) refl name_goes (λ ps k. k))
 
 pub call_read : (n : List ℕ) (p : Place) (f : ℕ) (ts : List LineToken) → IsLabel n → IsEffects f → AreEnded (source_with true true (label n p) ++ words_of_effects f) ts → Leading state.CallHash ts (HasLabel n f operands)
 call_read n p f [] is ef are = absurd are
 call_read n p f (t ∷ ts) is ef are =
     let words = subst (λ ws. AreEnded (ws ++ words_of_effects f) ts) (append-nil (words_of_name n)) are.1 in
-    by_arrow state.CallHash refl (on (choices state.CallHash).arrows t word.Hash state.CallLabel hash (HasLabel n f operands) are.0.word (λ m. refl) (hash_part t are.0.word) refl (label_read n f ts is ef words)
+    by_arrow state.CallHash refl (on_word (choices state.CallHash).arrows t word.Hash state.CallLabel hash (HasLabel n f operands) are.0.word (λ m. refl) (hash_part t are.0.word) refl (label_read n f ts is ef words)
     (λ ps k. record { place = k.place; given = k.given }))

@@ -13,8 +13,8 @@ use Rattle.p8_lexer.specs.Pieces.{Piece}
 use Rattle.p8_columns.specs.Lines.{Line}
 use Rattle.p8_columns.specs.Blocks.{AreStatements}
 use Rattle.p8_columns.proofs.Made.{made}
-use Rattle.p8_lines.specs.declared.state.State.{State}
-use Rattle.p8_lines.specs.declared.state.State.TheVariants as state
+use Rattle.p8_lines.specs.declared.state.LineState.{LineState}
+use Rattle.p8_lines.specs.declared.state.LineState.TheVariants as state
 use Rattle.p8_lines.specs.Tokens.{LineToken, word}
 use Rattle.p8_lines.specs.Lines.{Leads}
 use Rattle.p8_declarations.specs.Constants.{constants_of_row}
@@ -35,11 +35,11 @@ use Rattle.p8_printed.proofs.MethodLines.{IsLine, read_back}
 use Rattle.p8_printed.proofs.Lines.{line_is}
 
 -- an item is read back from the words of a line of its own
-pub record ItemReadsBack {X : Type 0} (value : List Piece → Option (List X)) (anywhere : X → X) (q : State) (words : List Spelled) (x : X) : Type 0 where
+pub record ItemReadsBack {X : Type 0} (value : List Piece → Option (List X)) (anywhere : X → X) (q : LineState) (words : List Spelled) (x : X) : Type 0 where
   pub readable : All IsReadable words
   pub read : (ts : List LineToken) (t : LineToken) → AreSpelled words ts → word t ≡ word_case.LineEnd → (row : List Piece) × (y : X) × Leads q (ts ++ t ∷ []) row state.End × (value row ≡ Some (y ∷ [])) × (anywhere y ≡ anywhere x)
 
-pub one_item : {X : Type 0} {value : List Piece → Option (List X)} {q : State} {words : List Spelled} (anywhere : X → X) (x : X) → ReadsBack value (map anywhere) q words (x ∷ []) → ItemReadsBack value anywhere q words x
+pub one_item : {X : Type 0} {value : List Piece → Option (List X)} {q : LineState} {words : List Spelled} (anywhere : X → X) (x : X) → ReadsBack value (map anywhere) q words (x ∷ []) → ItemReadsBack value anywhere q words x
 one_item {X} {value} {q} {words} anywhere x h = record { readable = h.readable; read = λ ts t s e. (let r = h.read ts t s e in go ts t r.0 r.1 r.2 r.3 r.4) }
   where
     go : (ts : List LineToken) (t : LineToken) (row : List Piece) (v : List X) → Leads q (ts ++ t ∷ []) row state.End → value row ≡ Some v → map anywhere v ≡ anywhere x ∷ [] → (row : List Piece) × (y : X) × Leads q (ts ++ t ∷ []) row state.End × (value row ≡ Some (y ∷ [])) × (anywhere y ≡ anywhere x)
@@ -47,7 +47,7 @@ one_item {X} {value} {q} {words} anywhere x h = record { readable = h.readable; 
     go ts t row (y ∷ []) l e f = (row, y, l, e, cc)
     go ts t row (y ∷ z ∷ v) l e f = absurd cc
 
-pub one_line : {q : State} {words : List Spelled} (x : sources.Line) → ReadsBack line_of_row (option_map line_anywhere) q words (Some x) → ItemReadsBack lines_of_row line_anywhere q words x
+pub one_line : {q : LineState} {words : List Spelled} (x : sources.Line) → ReadsBack line_of_row (option_map line_anywhere) q words (Some x) → ItemReadsBack lines_of_row line_anywhere q words x
 one_line {q} {words} x h = record { readable = h.readable; read = λ ts t s e. (let r = h.read ts t s e in go ts t r.0 r.1 r.2 r.3 r.4) }
   where
     go : (ts : List LineToken) (t : LineToken) (row : List Piece) (v : Option sources.Line) → Leads q (ts ++ t ∷ []) row state.End → line_of_row row ≡ Some v → option_map line_anywhere v ≡ Some (line_anywhere x) → (row : List Piece) × (y : sources.Line) × Leads q (ts ++ t ∷ []) row state.End × (lines_of_row row ≡ Some (y ∷ [])) × (line_anywhere y ≡ line_anywhere x)

@@ -5,8 +5,8 @@ use Rattle.p8_tree.specs.Sources.{Constant, Declared, Child, MethodTree, Line}
 use Rattle.p8_tree.specs.Forgetting.{constant_anywhere, declared_anywhere, child_anywhere, statements_anywhere, method_anywhere, line_anywhere}
 use Rattle.p8_tree.specs.Proper.{IsProperConstant, IsProperDeclared, IsProperChild, IsProperLine}
 use Rattle.p8_lexer.specs.Pieces.{Piece}
-use Rattle.p8_lines.specs.declared.state.State.{State}
-use Rattle.p8_lines.specs.declared.state.State.TheVariants as state
+use Rattle.p8_lines.specs.declared.state.LineState.{LineState}
+use Rattle.p8_lines.specs.declared.state.LineState.TheVariants as state
 use Rattle.p8_declarations.specs.Proper.{IsProperHead}
 use Rattle.p8_declarations.specs.Methods.{method_of_row}
 use Rattle.p8_declarations.specs.Lines.{line_of_row}
@@ -25,7 +25,7 @@ use Rattle.p8_printed.proofs.ProperAgain.{alike, constant_again, sized_again, ch
 use Rattle.p8_printed.proofs.AgainData.{line_again}
 
 -- another line of the same words, and the same but for places
-reads_alike : {V : Type 0} {value : List Piece → Option V} {anywhere : V → V} {q : State} {ws' ws : List Spelled} (v' v : V) → ws' ≡ ws → anywhere v' ≡ anywhere v → ReadsBack value anywhere q ws' v' → ReadsBack value anywhere q ws v
+reads_alike : {V : Type 0} {value : List Piece → Option V} {anywhere : V → V} {q : LineState} {ws' ws : List Spelled} (v' v : V) → ws' ≡ ws → anywhere v' ≡ anywhere v → ReadsBack value anywhere q ws' v' → ReadsBack value anywhere q ws v
 reads_alike v' v words same b = record {
   readable = subst (All IsReadable) words b.readable;
   capitals = subst (All IsInCapitals) words b.capitals;

@@ -14,8 +14,8 @@ use Rattle.p8_lexer.specs.Pieces.{Piece}
 use Rattle.p8_columns.specs.Lines.{Line}
 use Rattle.p8_columns.specs.Lines as columns
 use Rattle.p8_columns.specs.Blocks.{AreStatements}
-use Rattle.p8_lines.specs.declared.state.State.{State}
-use Rattle.p8_lines.specs.declared.state.State.TheVariants as state
+use Rattle.p8_lines.specs.declared.state.LineState.{LineState}
+use Rattle.p8_lines.specs.declared.state.LineState.TheVariants as state
 use Rattle.p8_lines.specs.Tokens.{LineToken, word, piece}
 use Rattle.p8_lines.specs.Lines.{here, Leads, nowhere, by_token}
 use Rattle.p8_declarations.specs.Constants.{constants_of_row}
@@ -49,7 +49,7 @@ end_piece : (t : LineToken) → word t ≡ word_case.LineEnd → piece t ≡ pie
 end_piece t e = word_piece t word_case.LineEnd refl e
 
 -- a line that ends where it begins, after the word of its block
-record Blank (q : State) {X : Type 0} (value : List Piece → Option (List X)) (t : LineToken) : Type 0 where
+record Blank (q : LineState) {X : Type 0} (value : List Piece → Option (List X)) (t : LineToken) : Type 0 where
   row : List Piece
   leads : Leads q (t ∷ []) row state.End
   is : value row ≡ Some []
@@ -95,12 +95,12 @@ alone : {w : Word} {ls : List SpelledLine} {us : List LineToken} (x : Headed w [
 alone x = x.split ∙ ap (λ z. x.token ∷ (z ++ x.end ∷ x.rest)) (no_words x.own x.spelled)
 
 -- items that are printed, each in a line of its own, are declared again
-record Redeclared {X : Type 0} (value : List Piece → Option (List X)) (anywhere : X → X) (q : State) (xs : List X) (us : List LineToken) : Type 0 where
+record Redeclared {X : Type 0} (value : List Piece → Option (List X)) (anywhere : X → X) (q : LineState) (xs : List X) (us : List LineToken) : Type 0 where
   items : List X
   adds : (ys : List X) (ts : List LineToken) → Declare within_limits value q ys ts → Declare within_limits value q (ys ++ items) (ts ++ us)
   same : map anywhere items ≡ map anywhere xs
 
-redeclared : {X : Type 0} (value : List Piece → Option (List X)) (anywhere : X → X) (q : State) (words : X → List Spelled) (xs : List X) {us : List LineToken} → Each (λ x. ItemReadsBack value anywhere q (words x) x) xs → AreSpelledLines (map (λ x. line 2 (words x)) xs) us → Redeclared value anywhere q xs us
+redeclared : {X : Type 0} (value : List Piece → Option (List X)) (anywhere : X → X) (q : LineState) (words : X → List Spelled) (xs : List X) {us : List LineToken} → Each (λ x. ItemReadsBack value anywhere q (words x) x) xs → AreSpelledLines (map (λ x. line 2 (words x)) xs) us → Redeclared value anywhere q xs us
 redeclared value anywhere q words [] h spelt.no_line = record { items = []; adds = λ ys ts d. subst₂ (Declare within_limits value q) (sym (append-nil ys)) (sym (append-nil ts)) d; same = refl }
 redeclared value anywhere q words (x ∷ xs) h (spelt.a_line {us = us} l own t s b e r) =
     let again = h.0.read own t s e in

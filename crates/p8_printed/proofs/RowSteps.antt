@@ -15,8 +15,8 @@ use Rattle.p8_grammar.specs.Heights.{height}
 use Rattle.p8_expr.specs.Words.{lexeme_of_word, reserved_as}
 use Rattle.p8_lexer.specs.Pieces.{Piece, word, name, text, tree}
 use Rattle.p8_lines.specs.declared.arrow.Arrow.{Arrow}
-use Rattle.p8_lines.specs.declared.state.State.{State}
-use Rattle.p8_lines.specs.declared.state.State.TheVariants as state
+use Rattle.p8_lines.specs.declared.state.LineState.{LineState}
+use Rattle.p8_lines.specs.declared.state.LineState.TheVariants as state
 use Rattle.p8_lines.specs.Diagram.{Phrase, choices}
 use Rattle.p8_lines.specs.Tokens as tokens
 use Rattle.p8_lines.specs.Tokens.{LineToken, string_length, lexeme, terms, piece_from, piece}
@@ -35,15 +35,15 @@ use Rattle.p8_printed.proofs.Readings.{IsRead}
 
 -- These words can be read back, and where they are read from a state on, this holds of the row. The line's end stands
 -- after them, unless the line ends with a word of its own.
-pub record RowBack (ended : Bool) (q : State) (ws : List Spelled) (P : List Piece → Type 0) : Type 0 where
+pub record RowBack (ended : Bool) (q : LineState) (ws : List Spelled) (P : List Piece → Type 0) : Type 0 where
   pub readable : All IsReadable ws
   pub capitals : All IsInCapitals ws
   pub read : (ts : List LineToken) (t : LineToken) → AreSpelled ws ts → tokens.word t ≡ word_case.LineEnd → (row : List Piece) × Leads q (with_line_end ended ts t) row state.End × P row
 
-pub weaker : {ended : Bool} {q : State} {ws : List Spelled} {P Q : List Piece → Type 0} → ((row : List Piece) → P row → Q row) → RowBack ended q ws P → RowBack ended q ws Q
+pub weaker : {ended : Bool} {q : LineState} {ws : List Spelled} {P Q : List Piece → Type 0} → ((row : List Piece) → P row → Q row) → RowBack ended q ws P → RowBack ended q ws Q
 weaker f b = record { readable = b.readable; capitals = b.capitals; read = λ ts t h e. let x = b.read ts t h e in (x.0, x.1, f x.0 x.2) }
 
-pub same_words : {ended : Bool} {q : State} {ws vs : List Spelled} {P : List Piece → Type 0} → ws ≡ vs → RowBack ended q vs P → RowBack ended q ws P
+pub same_words : {ended : Bool} {q : LineState} {ws vs : List Spelled} {P : List Piece → Type 0} → ws ≡ vs → RowBack ended q vs P → RowBack ended q ws P
 same_words {ended = ended} {q = q} {P = P} e b = subst (λ ws. RowBack ended q ws P) (sym e) b
 
 -- what a word is as a piece
@@ -84,20 +84,20 @@ token_piece w t readable capitals h = ap₂ (λ x v. piece_from x v t.place) (to
 -- arrows
 
 -- a token with this word, other than a string, takes the arrow to this state
-abbrev pub LeadsTo : List Arrow → Word → State → Type 0
+abbrev pub LeadsTo : List Arrow → Word → LineState → Type 0
 LeadsTo l w r = (n : ℕ) → target l w n ≡ Some r
 
-pub takes : (l : List Arrow) (w : Word) (r : State) (t : LineToken) → LeadsTo l w r → tokens.word t ≡ w → Follows l t r
+pub takes : (l : List Arrow) (w : Word) (r : LineState) (t : LineToken) → LeadsTo l w r → tokens.word t ≡ w → Follows l t r
 takes l w r t h e = follows l t r (ap (λ v. target l v (string_length t)) e ∙ h (string_length t))
 
 -- a line doesn't end where a local label's name stands
-pub unlabelled_end : (q : State) → LeadsTo (choices q).arrows word_case.LineEnd state.End → is_labelled q ≡ false
+pub unlabelled_end : (q : LineState) → LeadsTo (choices q).arrows word_case.LineEnd state.End → is_labelled q ≡ false
 unlabelled_end state.DatLabel h = absurd (let z = h 0 in cc)
 unlabelled_end state.CallLocal h = absurd (let z = h 0 in cc)
 unlabelled_end q h = refl
 
 -- the line's end
-pub ends : (q : State) {P : List Piece → Type 0} → LeadsTo (choices q).arrows word_case.LineEnd state.End → ((p : Place) → P (word word_case.LineEnd p ∷ [])) → RowBack true q [] P
+pub ends : (q : LineState) {P : List Piece → Type 0} → LeadsTo (choices q).arrows word_case.LineEnd state.End → ((p : Place) → P (word word_case.LineEnd p ∷ [])) → RowBack true q [] P
 ends q {P = P} h p = record { readable = All-nil IsReadable; capitals = All-nil IsInCapitals; read = go }
   where
     go : (ts : List LineToken) (t : LineToken) → AreSpelled [] ts → tokens.word t ≡ word_case.LineEnd → (row : List Piece) × Leads q (ts ++ t ∷ []) row state.End × P row
@@ -121,7 +121,7 @@ in_front true us ts t = append_assoc us ts (t ∷ [])
 in_front false us ts t = refl
 
 -- one word and those after it
-pub one : {ended : Bool} (q r : State) → is_labelled q ≡ false → (w : Spelled) {ws : List Spelled} {P : List Piece → Type 0} → IsReadable w → IsInCapitals w → ((t : LineToken) → IsSpelled w t → Follows (choices q).arrows t r) → RowBack ended r ws (λ row. (p : Place) → P (piece_at w p ∷ row)) → RowBack ended q (w ∷ ws) P
+pub one : {ended : Bool} (q r : LineState) → is_labelled q ≡ false → (w : Spelled) {ws : List Spelled} {P : List Piece → Type 0} → IsReadable w → IsInCapitals w → ((t : LineToken) → IsSpelled w t → Follows (choices q).arrows t r) → RowBack ended r ws (λ row. (p : Place) → P (piece_at w p ∷ row)) → RowBack ended q (w ∷ ws) P
 one {ended} q r unlabelled w {ws = ws} {P = P} readable capitals f b = record {
   readable = All-cons IsReadable w ws readable b.readable;
   capitals = All-cons IsInCapitals w ws capitals b.capitals;
@@ -138,7 +138,7 @@ one {ended} q r unlabelled w {ws = ws} {P = P} readable capitals f b = record {
           subst (λ y. P (y ∷ x.0)) (sym (token_piece w u readable capitals h.0)) (x.2 u.place),
         )
 
-pub a_word : {ended : Bool} (q r : State) → is_labelled q ≡ false → (w : Word) {ws : List Spelled} {P : List Piece → Type 0} → is_free w ≡ false → LeadsTo (choices q).arrows w r → RowBack ended r ws (λ row. (p : Place) → P (word w p ∷ row)) → RowBack ended q (spelled.reserved w ∷ ws) P
+pub a_word : {ended : Bool} (q r : LineState) → is_labelled q ≡ false → (w : Word) {ws : List Spelled} {P : List Piece → Type 0} → is_free w ≡ false → LeadsTo (choices q).arrows w r → RowBack ended r ws (λ row. (p : Place) → P (word w p ∷ row)) → RowBack ended q (spelled.reserved w ∷ ws) P
 a_word q r unlabelled w free h b = one q r unlabelled (spelled.reserved w) free tt (λ t is. takes (choices q).arrows w r t h is.word) b
 
 -- expressions
@@ -190,7 +190,7 @@ reread s e (u ∷ v ∷ us) r h =
     record { first = u; second = v; others = us; tokens = refl; other = x.0; is = x.1; same = x.2; low = subst (λ n. n ≤ 64) (sym z) y }
 
 -- an expression at the line's end
-pub last : (q : State) (h : Phrase) (e : Tree) {P : List Piece → Type 0} → (choices q).phrase ≡ Some h → IsRead h.setting e → LeadsTo h.behind_other word_case.LineEnd state.End
+pub last : (q : LineState) (h : Phrase) (e : Tree) {P : List Piece → Type 0} → (choices q).phrase ≡ Some h → IsRead h.setting e → LeadsTo h.behind_other word_case.LineEnd state.End
     → ((e' : Tree) → IsSameTree e' e → (p p' : Place) → P (tree e' p ∷ word word_case.LineEnd p' ∷ [])) → RowBack true q (wrapped e) P
 last q h e {P = P} some r f p = record {
   readable = wrapped_readable h.setting e r;
@@ -209,7 +209,7 @@ last q h e {P = P} some r f p = record {
         )
 
 -- an expression, a word and those after it
-pub before : {ended : Bool} (q r : State) (h : Phrase) (e : Tree) (w : Word) {ws : List Spelled} {P : List Piece → Type 0} → (choices q).phrase ≡ Some h → IsRead h.setting e → is_free w ≡ false → LeadsTo h.behind_other w r
+pub before : {ended : Bool} (q r : LineState) (h : Phrase) (e : Tree) (w : Word) {ws : List Spelled} {P : List Piece → Type 0} → (choices q).phrase ≡ Some h → IsRead h.setting e → is_free w ≡ false → LeadsTo h.behind_other w r
     → RowBack ended r ws (λ row. (p' : Place) (e' : Tree) → IsSameTree e' e → (p : Place) → P (tree e' p ∷ word w p' ∷ row)) → RowBack ended q (wrapped e ++ spelled.reserved w ∷ ws) P
 before {ended} q r h e w {ws = ws} {P = P} some y free f b = record {
   readable =

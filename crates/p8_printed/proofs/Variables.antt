@@ -13,8 +13,8 @@ use Rattle.p8_lexer.specs.Table.{rows}
 use Rattle.p8_lexer.specs.declared.word.Word.TheVariants as word_case
 use Rattle.p8_grammar.specs.Lexemes.{Setting, in_declaration}
 use Rattle.p8_lines.specs.declared.arrow.Arrow.{Arrow}
-use Rattle.p8_lines.specs.declared.state.State.{State}
-use Rattle.p8_lines.specs.declared.state.State.TheVariants as state
+use Rattle.p8_lines.specs.declared.state.LineState.{LineState}
+use Rattle.p8_lines.specs.declared.state.LineState.TheVariants as state
 use Rattle.p8_lines.specs.Diagram.{choices}
 use Rattle.p8_declarations.specs.Parts.{Part, comma, left_bracket, right_bracket, size, name, tree, part_of_word, is_line_end, with_first}
 use Rattle.p8_declarations.specs.Variables.{variable, variables, sized_variables, variables_of_row}
@@ -41,7 +41,7 @@ abbrev pub AreVariables : ℕ → List Declared → List Part → Type 0
 AreVariables z xs ps = (ys : List Declared) × (variables z ps ≡ Some ys) × (map declared_anywhere ys ≡ map declared_anywhere xs)
 
 -- the states of such names: before a name, after it, in its brackets and after them
-pub record Names (s : Setting) (q named inside more : State) : Type 0 where
+pub record Names (s : Setting) (q named inside more : LineState) : Type 0 where
   pub unlabelled : is_labelled q ≡ false
   pub arrows : List Arrow
   pub name : LeadsTo (choices q).arrows word_case.Name named
@@ -56,7 +56,7 @@ pub record Names (s : Setting) (q named inside more : State) : Type 0 where
 one_more : (z : ℕ) (x y : Declared) (xs : List Declared) (rest ps : List Part) → declared_anywhere y ≡ declared_anywhere x → variables z ps ≡ with_first y (variables z rest) → AreVariables z xs rest → AreVariables z (x ∷ xs) ps
 one_more z x y xs rest ps same is r = (y ∷ r.0, is ∙ ap (with_first y) r.1, λ i. same i ∷ r.2 i)
 
-module _ (s : Setting) (q named inside more : State) (at : Names s q named inside more) where
+module _ (s : Setting) (q named inside more : LineState) (at : Names s q named inside more) where
   pub names_back : (z : ℕ) (x : Declared) (xs : List Declared) → IsVariable s z x → AllByRecursion (IsVariable s z) xs → Back q (words_of_name_and_count x ++ more_locals xs) (AreVariables z (x ∷ xs))
   unfolding part_of_word
   names_back z _ [] (alone {n = n} {p = o} y) h =

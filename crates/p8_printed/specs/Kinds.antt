@@ -1,8 +1,8 @@
 -- Lines of methods: what they are without their places, and where they are read from.
 use Rattle.p8_tree.specs.Forgetting.{tree_anywhere, items_anywhere, course_anywhere, action_anywhere}
 use Rattle.p8_columns.specs.Lines.{Kind, Plain, If, ElseIf, Else, Repeat, End, Case, Item as ItemLine, Other}
-use Rattle.p8_lines.specs.declared.state.State.{State}
-use Rattle.p8_lines.specs.declared.state.State.TheVariants as state
+use Rattle.p8_lines.specs.declared.state.LineState.{LineState}
+use Rattle.p8_lines.specs.declared.state.LineState.TheVariants as state
 
 -- a line of a method without its places
 abbrev pub kind_anywhere : Kind → Kind
@@ -17,7 +17,7 @@ kind_anywhere (ItemLine tests) = ItemLine (items_anywhere tests)
 kind_anywhere Other = Other
 
 -- the state from which a line of a method is read
-abbrev pub begin_of : Kind → State
+abbrev pub begin_of : Kind → LineState
 begin_of (Plain a) = state.Statement
 begin_of (If negated test) = state.Statement
 begin_of (ElseIf negated test) = state.ChainLine

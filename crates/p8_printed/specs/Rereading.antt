@@ -3,8 +3,8 @@ use Rattle.std.specs.Prelude.{◌≡◌, Bool, true, false, not, List, [], ◌�
 use Rattle.p8_lexer.specs.declared.word.Word.TheVariants as word_case
 use Rattle.p8_columns.specs.Lines.{Kind}
 use Rattle.p8_lexer.specs.Pieces.{Piece}
-use Rattle.p8_lines.specs.declared.state.State.{State}
-use Rattle.p8_lines.specs.declared.state.State.TheVariants as state
+use Rattle.p8_lines.specs.declared.state.LineState.{LineState}
+use Rattle.p8_lines.specs.declared.state.LineState.TheVariants as state
 use Rattle.p8_lines.specs.Tokens.{LineToken, word, terms}
 use Rattle.p8_lines.specs.Lines.{Leads}
 use Rattle.p8_statements.specs.Statements.{kind_of_row}
@@ -38,7 +38,7 @@ with_line_end true ts t = ts ++ t ∷ []
 with_line_end false ts t = ts
 
 -- Words are read back from a state on, as a line with this value; `anywhere` forgets the places of values.
-pub record ReadsBack {V : Type 0} (value : List Piece → Option V) (anywhere : V → V) (q : State) (words : List Spelled) (v : V) : Type 0 where
+pub record ReadsBack {V : Type 0} (value : List Piece → Option V) (anywhere : V → V) (q : LineState) (words : List Spelled) (v : V) : Type 0 where
   pub readable : All IsReadable words
   pub capitals : All IsInCapitals words
   pub read : (ts : List LineToken) (t : LineToken) → AreSpelled words ts → word t ≡ word_case.LineEnd →

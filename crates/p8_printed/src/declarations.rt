@@ -4,8 +4,8 @@ ghost use Rattle.std.specs.Prelude.{◌≡◌, Bool, List, [], ◌∷◌, Some, 
 ghost use Rattle.p8_tree.specs.Sources.{Constant, Declared, Child, MethodTree};
 ghost use Rattle.p8_tree.specs.Forgetting.{constant_anywhere, declared_anywhere, child_anywhere, method_anywhere};
 ghost use Rattle.p8_lexer.specs.Pieces.{Piece};
-ghost use Rattle.p8_lines.specs.declared.state.State as state;
-ghost use Rattle.p8_lines.specs.declared.state.State.TheVariants as state_case;
+ghost use Rattle.p8_lines.specs.declared.state.LineState as state;
+ghost use Rattle.p8_lines.specs.declared.state.LineState.TheVariants as state_case;
 ghost use Rattle.p8_lines.specs.Tokens.{LineToken};
 ghost use Rattle.p8_lines.specs.Lines.{Leads};
 ghost use Rattle.p8_declarations.specs.Constants.{constants_of_row};

@@ -3,8 +3,8 @@
 ghost use Rattle.std.specs.Prelude.{◌≡◌, IsTrue, List, Some};
 ghost use Rattle.p8_columns.specs.Lines.{Kind};
 ghost use Rattle.p8_lexer.specs.Pieces.{Piece};
-ghost use Rattle.p8_lines.specs.declared.state.State as state;
-ghost use Rattle.p8_lines.specs.declared.state.State.TheVariants as state_case;
+ghost use Rattle.p8_lines.specs.declared.state.LineState as state;
+ghost use Rattle.p8_lines.specs.declared.state.LineState.TheVariants as state_case;
 ghost use Rattle.p8_lines.specs.Tokens.{LineToken};
 ghost use Rattle.p8_lines.specs.Lines.{Leads};
 ghost use Rattle.p8_statements.specs.Statements.{kind_of_row};
@@ -13,7 +13,7 @@ ghost use Rattle.p8_printed.specs.Rereading.{AreOfSource, LineReadsBack};
 
 /// A line of a method is read back, but for places.
 pub fn lines_read_back()
-    ensures { (q : state.State) (us : List LineToken) (row : List Piece) (k : Kind) → IsTrue (begins_line q) → Leads q us row state_case.End →
+    ensures { (q : state.LineState) (us : List LineToken) (row : List Piece) (k : Kind) → IsTrue (begins_line q) → Leads q us row state_case.End →
         AreOfSource us → kind_of_row row ≡ Some k → LineReadsBack k }
 {
     p8_expr::lexemes_are_proper();

@@ -33,7 +33,7 @@ use Rattle.p8_page.specs.Page.{Block}
 use Rattle.p8_inputs.specs.Programs.{format_for, world_of, memory_by, first_by, boot_by, format_of, binary_by, other_file}
 use Rattle.p8_inputs.specs.Runs.{Begins, HasProperTrees}
 use Rattle.p8_inputs.specs.Sources.{IsImageFrom, IsListingFrom, IsCodeFrom, IsMapFrom, IsHintsFrom}
-use Rattle.p8_commands.specs.declared.kind.ImageKind.{ImageKind}
+use Rattle.p8_commands.specs.declared.image_kind.ImageKind.{ImageKind}
 use Rattle.p8_commands.specs.Commands.{Command, Dump, Running, BuildSource, ListSource, CodeSource, CodeImage, MapSource, HintSource, ExplainFile, Check, TypeFile, Convert, Make}
 use Rattle.p8_prop.specs.declared.work.Answer.{Answer}
 use Rattle.p8_prop.specs.declared.work.Answer.TheVariants.{Text, Bad}

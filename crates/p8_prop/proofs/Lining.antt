@@ -14,8 +14,8 @@ use Rattle.p8_grammar.specs.Grammar.{IsExpression}
 use Rattle.p8_lines.specs.declared.sign.Sign.{Sign}
 use Rattle.p8_lines.specs.declared.sign.Sign.TheVariants as sign
 use Rattle.p8_lines.specs.declared.arrow.Arrow.{Arrow}
-use Rattle.p8_lines.specs.declared.state.State.{State}
-use Rattle.p8_lines.specs.declared.state.State.TheVariants as state
+use Rattle.p8_lines.specs.declared.state.LineState.{LineState}
+use Rattle.p8_lines.specs.declared.state.LineState.TheVariants as state
 use Rattle.p8_lines.specs.Signs.{Matches, is_size, is_condition, takes_two, is_on_memory, takes_one, is_flag, is_write, is_label}
 use Rattle.p8_lines.specs.Diagram.{Phrase, choices}
 use Rattle.p8_lines.specs.Tokens as tokens
@@ -31,7 +31,7 @@ use Rattle.p8_prop.specs.Sources.{Spelling, Row, last, a_token, a_label, an_expr
 
 -- ---- a line ends with the end of a line, or with a colon, and nowhere else
 
-abbrev pub is_end : State → Bool
+abbrev pub is_end : LineState → Bool
 is_end state.End = true
 is_end q = false
 
@@ -71,19 +71,19 @@ no-line-end sign.Flag v n h m e = let never : IsTrue (is_flag word.LineEnd) = su
 no-line-end sign.Write v n h m e = let never : IsTrue (is_write word.LineEnd) = subst (λ (v : Word). IsTrue (is_write v)) e m in cc
 no-line-end sign.Label v n h m e = let never : IsTrue (is_label word.LineEnd) = subst (λ (v : Word). IsTrue (is_label v)) e m in cc
 
-arrows-fit : (q : State) → IsTrue (all_good fits (choices q).arrows)
+arrows-fit : (q : LineState) → IsTrue (all_good fits (choices q).arrows)
 arrows-fit state.End = refl
 arrows-fit q = refl
 
-phrases-fit : (q : State) → IsTrue (all_behind fits (choices q).phrase)
+phrases-fit : (q : LineState) → IsTrue (all_behind fits (choices q).phrase)
 phrases-fit state.End = refl
 phrases-fit q = refl
 
 -- which of its choices a token at a state takes
-by-arrow : (q : State) {r : State} {t : LineToken} → Follows (choices q).arrows t r → Takes fits t r
+by-arrow : (q : LineState) {r : LineState} {t : LineToken} → Follows (choices q).arrows t r → Takes fits t r
 by-arrow q f = taken fits f (arrows-fit q)
 
-by-phrase : (q : State) {r : State} {t : LineToken} (h : Phrase) (us : List LineToken) → (choices q).phrase ≡ Some h → Follows (behind h us) t r → Takes fits t r
+by-phrase : (q : LineState) {r : LineState} {t : LineToken} (h : Phrase) (us : List LineToken) → (choices q).phrase ≡ Some h → Follows (behind h us) t r → Takes fits t r
 by-phrase q h us some f = taken_behind fits h us f (subst (λ (o : Option Phrase). IsTrue (all_behind fits o)) some (phrases-fit q))
 
 not-so : (b : Bool) → IsTrue (not b) → b ≡ false
@@ -102,35 +102,35 @@ unchosen : (b : Bool) (x y : Bool) → b ≡ false → IsTrue (if b then x else 
 unchosen true x y e h = absurd cc
 unchosen false x y e h = h
 
-at-end : {t : LineToken} {r : State} → Takes fits t r → is_end r ≡ true → (tokens.word t ≡ word.LineEnd) ⊎ (tokens.word t ≡ word.Colon)
+at-end : {t : LineToken} {r : LineState} → Takes fits t r → is_end r ≡ true → (tokens.word t ≡ word.LineEnd) ⊎ (tokens.word t ≡ word.Colon)
 at-end {t = t} takes e =
     ends-so takes.arrow.sign (tokens.word t) (string_length t)
     (chosen (is_end takes.arrow.to) (ends takes.arrow.sign) (not (is_line_end takes.arrow.sign)) (ap is_end takes.goes ∙ e) takes.good) takes.is
 
-inside : {t : LineToken} {r : State} → Takes fits t r → is_end r ≡ false → tokens.word t ≡ word.LineEnd → ⊥
+inside : {t : LineToken} {r : LineState} → Takes fits t r → is_end r ≡ false → tokens.word t ≡ word.LineEnd → ⊥
 inside {t = t} takes e =
     no-line-end takes.arrow.sign (tokens.word t) (string_length t)
     (unchosen (is_end takes.arrow.to) (ends takes.arrow.sign) (not (is_line_end takes.arrow.sign)) (ap is_end takes.goes ∙ e) takes.good) takes.is
 
-nothing-follows : {t : LineToken} {r : State} → Follows [] t r → ⊥
+nothing-follows : {t : LineToken} {r : LineState} → Follows [] t r → ⊥
 nothing-follows f = elim f [ ]
 
-open-arrows : (q : State) {t : LineToken} {r : State} → Follows (choices q).arrows t r → is_end q ≡ false
+open-arrows : (q : LineState) {t : LineToken} {r : LineState} → Follows (choices q).arrows t r → is_end q ≡ false
 open-arrows state.End f = absurd (nothing-follows f)
 open-arrows q f = refl
 
-open-phrase : (q : State) (h : Phrase) → (choices q).phrase ≡ Some h → is_end q ≡ false
+open-phrase : (q : LineState) (h : Phrase) → (choices q).phrase ≡ Some h → is_end q ≡ false
 open-phrase state.End h some = absurd cc
 open-phrase q h some = refl
 
 -- a token behind the colon of a local label, or any other
-labelled : (q : State) → (is_labelled q ≡ false) ⊎ ((is_labelled q ≡ true) × ((t : LineToken) → piece_in q t ≡ label_piece t))
+labelled : (q : LineState) → (is_labelled q ≡ false) ⊎ ((is_labelled q ≡ true) × ((t : LineToken) → piece_in q t ≡ label_piece t))
 labelled state.DatLabel = inr (refl, λ t. refl)
 labelled state.CallLocal = inr (refl, λ t. refl)
 labelled q = inl refl
 
 -- such a token is named
-named-there : (q : State) {t : LineToken} {r : State} → is_labelled q ≡ true → Follows (choices q).arrows t r → (n : List ℕ) × (name_in (lexeme t) ≡ Some n)
+named-there : (q : LineState) {t : LineToken} {r : LineState} → is_labelled q ≡ true → Follows (choices q).arrows t r → (n : List ℕ) × (name_in (lexeme t) ≡ Some n)
 named-there state.DatLabel {t = t} e (here m) = named_label t m
 named-there state.CallLocal {t = t} e (here m) = named_label t m
 named-there state.DatLabel e (further n f) = absurd (nothing-follows f)
@@ -140,26 +140,26 @@ named-there q e f = absurd cc
 label-is : (t : LineToken) (n : List ℕ) → name_in (lexeme t) ≡ Some n → label_piece t ≡ pieces.label n t.place
 label-is t n is = ap (λ (o : Option (List ℕ)). pieces.label (unwrap_or o []) t.place) is
 
-open-label : (q : State) {t : LineToken} {r : State} → is_labelled q ≡ true → Follows (choices q).arrows t r → is_end r ≡ false
-open-label state.DatLabel e f = let it = taken (λ (a : Arrow). not (is_end a.to)) f refl in not-so (is_end _) (subst (λ (r : State). IsTrue (not (is_end r))) it.goes it.good)
-open-label state.CallLocal e f = let it = taken (λ (a : Arrow). not (is_end a.to)) f refl in not-so (is_end _) (subst (λ (r : State). IsTrue (not (is_end r))) it.goes it.good)
+open-label : (q : LineState) {t : LineToken} {r : LineState} → is_labelled q ≡ true → Follows (choices q).arrows t r → is_end r ≡ false
+open-label state.DatLabel e f = let it = taken (λ (a : Arrow). not (is_end a.to)) f refl in not-so (is_end _) (subst (λ (r : LineState). IsTrue (not (is_end r))) it.goes it.good)
+open-label state.CallLocal e f = let it = taken (λ (a : Arrow). not (is_end a.to)) f refl in not-so (is_end _) (subst (λ (r : LineState). IsTrue (not (is_end r))) it.goes it.good)
 open-label q e f = absurd cc
 
 -- the word that a token is to those behind it
-abbrev word_at : State → LineToken → Word
+abbrev word_at : LineState → LineToken → Word
 word_at q t = if is_labelled q then word.Name else tokens.word t
 
-plain-word : (q : State) (t : LineToken) → is_labelled q ≡ false → word_at q t ≡ tokens.word t
+plain-word : (q : LineState) (t : LineToken) → is_labelled q ≡ false → word_at q t ≡ tokens.word t
 plain-word q t e = ap (λ (b : Bool). if b then word.Name else tokens.word t) e
 
-label-word : (q : State) (t : LineToken) → is_labelled q ≡ true → word_at q t ≡ word.Name
+label-word : (q : LineState) (t : LineToken) → is_labelled q ≡ true → word_at q t ≡ word.Name
 label-word q t e = ap (λ (b : Bool). if b then word.Name else tokens.word t) e
 
-module _ (spelled : Spelling) (Known : State → List Word → Type 0)
-    (by-token : (q r : State) (before : List Word) (t : LineToken) → Known q before → Follows (choices q).arrows t r → Known r (word_at q t ∷ before))
-    (by-value : (q r : State) (before : List Word) (h : Phrase) (us : List LineToken) (t : LineToken) → Known q before → (choices q).phrase ≡ Some h
+module _ (spelled : Spelling) (Known : LineState → List Word → Type 0)
+    (by-token : (q r : LineState) (before : List Word) (t : LineToken) → Known q before → Follows (choices q).arrows t r → Known r (word_at q t ∷ before))
+    (by-value : (q r : LineState) (before : List Word) (h : Phrase) (us : List LineToken) (t : LineToken) → Known q before → (choices q).phrase ≡ Some h
     → Follows (behind h us) t r → (spelled before (tokens.word t) ≡ h.setting) × Known r (tokens.word t ∷ before)) where
-  token-step : {before : List Word} {row : List Piece} {ts : List LineToken} (q : State) {r : State} (t : LineToken) → Follows (choices q).arrows t r
+  token-step : {before : List Word} {row : List Piece} {ts : List LineToken} (q : LineState) {r : LineState} (t : LineToken) → Follows (choices q).arrows t r
       → (is_labelled q ≡ false → Row spelled before (piece t ∷ row) (t ∷ ts)) → (is_labelled q ≡ true → Row spelled (word.Name ∷ before) row ts)
       → Row spelled before (piece_in q t ∷ row) (t ∷ ts)
   token-step {before = before} {row = row} {ts = ts} q t f plain label = elim (labelled q) [
@@ -169,17 +169,17 @@ module _ (spelled : Spelling) (Known : State → List Word → Type 0)
         subst (λ (x : Piece). Row spelled before (x ∷ row) (t ∷ ts)) (sym (it.1 t ∙ label-is t n.0 n.1)) (a_label t n.1 (label it.0))
   ]
 
-  known-plain : (q r : State) (before : List Word) (t : LineToken) → Known q before → Follows (choices q).arrows t r → is_labelled q ≡ false
+  known-plain : (q r : LineState) (before : List Word) (t : LineToken) → Known q before → Follows (choices q).arrows t r → is_labelled q ≡ false
       → Known r (tokens.word t ∷ before)
   known-plain q r before t known f e = subst (λ (w : Word). Known r (w ∷ before)) (plain-word q t e) (by-token q r before t known f)
 
-  known-label : (q r : State) (before : List Word) (t : LineToken) → Known q before → Follows (choices q).arrows t r → is_labelled q ≡ true
+  known-label : (q r : LineState) (before : List Word) (t : LineToken) → Known q before → Follows (choices q).arrows t r → is_labelled q ≡ true
       → Known r (word.Name ∷ before)
   known-label q r before t known f e = subst (λ (w : Word). Known r (w ∷ before)) (label-word q t e) (by-token q r before t known f)
 
   mutual
     -- from a state on
-    pub goes-on : {q : State} {before : List Word} {row : List Piece} {ts : List LineToken} → lines.Row q row ts → Known q before → is_end q ≡ false
+    pub goes-on : {q : LineState} {before : List Word} {row : List Piece} {ts : List LineToken} → lines.Row q row ts → Known q before → is_end q ≡ false
         → Row spelled before row ts
     goes-on lines.over known ahead = absurd cc
     goes-on {before = before} (lines.token {q = q} {r = r} {t = t} f rest) known ahead =
@@ -191,7 +191,7 @@ module _ (spelled : Spelling) (Known : State → List Word → Type 0)
         (after t (by-phrase q h (first ∷ others) some f) rest it.1)
 
     -- after a token that isn't a label
-    after : {q : State} {before : List Word} {row : List Piece} {ts : List LineToken} (t : LineToken) → Takes fits t q → lines.Row q row ts
+    after : {q : LineState} {before : List Word} {row : List Piece} {ts : List LineToken} (t : LineToken) → Takes fits t q → lines.Row q row ts
         → Known q (tokens.word t ∷ before) → Row spelled before (piece t ∷ row) (t ∷ ts)
     after t takes lines.over known = last t (at-end takes refl)
     after {before = before} t takes (lines.token {q = q} {r = r} {t = u} f rest) known =
@@ -215,17 +215,17 @@ when-own : (b : Bool) (x k : Setting) → (if b then x else k) ≡ k → IsTrue 
 when-own true x k e h = e
 when-own false x k e h = absurd cc
 
-module _ (own : State → Bool) (closed : (q : State) → IsTrue (is_closed own q)) (k : Setting)
-    (same : (q : State) → (if own q then setting_in k (choices q).phrase else k) ≡ k) where
-  setting-is : (q : State) (h : Phrase) → IsTrue (own q) → (choices q).phrase ≡ Some h → k ≡ h.setting
+module _ (own : LineState → Bool) (closed : (q : LineState) → IsTrue (is_closed own q)) (k : Setting)
+    (same : (q : LineState) → (if own q then setting_in k (choices q).phrase else k) ≡ k) where
+  setting-is : (q : LineState) (h : Phrase) → IsTrue (own q) → (choices q).phrase ≡ Some h → k ≡ h.setting
   setting-is q h o some = sym (ap (setting_in k) (sym some) ∙ when-own (own q) (setting_in k (choices q).phrase) k (same q) o)
 
-  alike : {q : State} {row : List Piece} {ts : List LineToken} → lines.Row q row ts → IsTrue (own q) → is_end q ≡ false → Row (λ before w. k) [] row ts
+  alike : {q : LineState} {row : List Piece} {ts : List LineToken} → lines.Row q row ts → IsTrue (own q) → is_end q ≡ false → Row (λ before w. k) [] row ts
   alike x o ahead =
       goes-on (λ before w. k) (λ q before. IsTrue (own q)) (λ q r before t h f. own_next own closed q r t f h)
       (λ q r before h us t known some f. (setting-is q h known some, own_behind own closed q r h us t some f known)) x o ahead
 
-abbrev pub outer : State → Bool
+abbrev pub outer : LineState → Bool
 outer state.End = true
 outer state.LineEnd = true
 outer state.ConHead = true
@@ -248,18 +248,18 @@ outer state.ObjColon = true
 outer state.ObjFile = true
 outer q = false
 
-outer-closed : (q : State) → IsTrue (is_closed outer q)
+outer-closed : (q : LineState) → IsTrue (is_closed outer q)
 outer-closed state.End = refl
 outer-closed q = refl
 
-outer-same : (q : State) → (if outer q then setting_in in_declaration (choices q).phrase else in_declaration) ≡ in_declaration
+outer-same : (q : LineState) → (if outer q then setting_in in_declaration (choices q).phrase else in_declaration) ≡ in_declaration
 outer-same state.End = refl
 outer-same q = refl
 
-pub declared-line : {q : State} {row : List Piece} {ts : List LineToken} → lines.Row q row ts → IsTrue (outer q) → is_end q ≡ false → Row declared [] row ts
+pub declared-line : {q : LineState} {row : List Piece} {ts : List LineToken} → lines.Row q row ts → IsTrue (outer q) → is_end q ≡ false → Row declared [] row ts
 declared-line x o ahead = alike outer outer-closed in_declaration outer-same x o ahead
 
-abbrev heading : State → Bool
+abbrev heading : LineState → Bool
 heading state.End = true
 heading state.MethodName = true
 heading state.MethodNamed = true
@@ -274,11 +274,11 @@ heading state.LocalCount = true
 heading state.MoreLocals = true
 heading q = false
 
-heading-closed : (q : State) → IsTrue (is_closed heading q)
+heading-closed : (q : LineState) → IsTrue (is_closed heading q)
 heading-closed state.End = refl
 heading-closed q = refl
 
-heading-same : (q : State) → (if heading q then setting_in in_method (choices q).phrase else in_method) ≡ in_method
+heading-same : (q : LineState) → (if heading q then setting_in in_method (choices q).phrase else in_method) ≡ in_method
 heading-same state.End = refl
 heading-same q = refl
 
@@ -287,14 +287,14 @@ head-line x = alike heading heading-closed in_method heading-same x refl refl
 
 -- ---- lines of methods
 
-abbrev pub starts : State → Bool
+abbrev pub starts : LineState → Bool
 starts state.Statement = true
 starts state.ChainLine = true
 starts state.LoopEndLine = true
 starts state.CaseItem = true
 starts q = false
 
-abbrev inner : State → Bool
+abbrev inner : LineState → Bool
 inner state.End = true
 inner state.LineEnd = true
 inner state.LastValue = true
@@ -307,14 +307,14 @@ inner state.CaseRange = true
 inner state.OtherColon = true
 inner q = false
 
-abbrev leads : State → Bool
+abbrev leads : LineState → Bool
 leads q = if starts q || inner q then all_good (λ (a : Arrow). inner a.to) (choices q).arrows && all_behind (λ (a : Arrow). inner a.to) (choices q).phrase else true
 
-text-leads : (q : State) → IsTrue (leads q)
+text-leads : (q : LineState) → IsTrue (leads q)
 text-leads state.End = refl
 text-leads q = refl
 
-inner-same : (q : State) → (if inner q then setting_in in_method (choices q).phrase else in_method) ≡ in_method
+inner-same : (q : LineState) → (if inner q then setting_in in_method (choices q).phrase else in_method) ≡ in_method
 inner-same state.End = refl
 inner-same q = refl
 
@@ -339,7 +339,7 @@ method-so word.LineEnd n = absurd (n refl)
 method-so w n = refl
 
 -- the first expression of a line is no value where the line ends with it, and else one
-first-setting : (q : State) (h : Phrase) (us : List LineToken) (t : LineToken) (r : State) → IsTrue (starts q) → (choices q).phrase ≡ Some h
+first-setting : (q : LineState) (h : Phrase) (us : List LineToken) (t : LineToken) (r : LineState) → IsTrue (starts q) → (choices q).phrase ≡ Some h
     → Follows (behind h us) t r → in_text [] (tokens.word t) ≡ h.setting
 first-setting state.Statement h us t r s some f =
     let all : IsTrue (all_good_behind (λ (a : Arrow). is_line_end a.sign) h) =
@@ -356,25 +356,25 @@ first-setting state.LoopEndLine h us t r s some f = absurd cc
 first-setting q h us t r s some f = absurd cc
 
 -- a line begins, or one of its words has been read
-abbrev InText : State → List Word → Type 0
+abbrev InText : LineState → List Word → Type 0
 InText q before = (IsTrue (starts q) × (before ≡ [])) ⊎ (IsTrue (inner q) × ((w : Word) → in_text before w ≡ in_method))
 
-in-text : (q : State) (before : List Word) → InText q before → IsTrue (starts q || inner q)
+in-text : (q : LineState) (before : List Word) → InText q before → IsTrue (starts q || inner q)
 in-text q before (inl it) = either-left (starts q) (inner q) it.0
 in-text q before (inr it) = either-right (starts q) (inner q) it.0
 
-all-inner : (q : State) (before : List Word) → InText q before
+all-inner : (q : LineState) (before : List Word) → InText q before
     → IsTrue (all_good (λ (a : Arrow). inner a.to) (choices q).arrows) × IsTrue (all_behind (λ (a : Arrow). inner a.to) (choices q).phrase)
 all-inner q before known =
     both (all_good (λ (a : Arrow). inner a.to) (choices q).arrows) (all_behind (λ (a : Arrow). inner a.to) (choices q).phrase)
     (chosen (starts q || inner q) _ true (in-text q before known) (text-leads q))
 
-text-token : (q r : State) (before : List Word) (t : LineToken) → InText q before → Follows (choices q).arrows t r → InText r (word_at q t ∷ before)
+text-token : (q r : LineState) (before : List Word) (t : LineToken) → InText q before → Follows (choices q).arrows t r → InText r (word_at q t ∷ before)
 text-token q r before t known f =
     let it = taken (λ (a : Arrow). inner a.to) f (all-inner q before known).0 in
-    inr (subst (λ (r : State). IsTrue (inner r)) it.goes it.good, λ v. refl)
+    inr (subst (λ (r : LineState). IsTrue (inner r)) it.goes it.good, λ v. refl)
 
-text-setting : (q r : State) (before : List Word) (h : Phrase) (us : List LineToken) (t : LineToken) → InText q before → (choices q).phrase ≡ Some h
+text-setting : (q r : LineState) (before : List Word) (h : Phrase) (us : List LineToken) (t : LineToken) → InText q before → (choices q).phrase ≡ Some h
     → Follows (behind h us) t r → in_text before (tokens.word t) ≡ h.setting
 text-setting q r before h us t (inl it) some f =
     ap (λ (b : List Word). in_text b (tokens.word t)) it.1 ∙ first-setting q h us t r it.0 some f
@@ -382,24 +382,24 @@ text-setting q r before h us t (inr it) some f =
     it.1 (tokens.word t)
     ∙ sym (ap (setting_in in_method) (sym some) ∙ when-own (inner q) (setting_in in_method (choices q).phrase) in_method (inner-same q) it.0)
 
-text-value : (q r : State) (before : List Word) (h : Phrase) (us : List LineToken) (t : LineToken) → InText q before → (choices q).phrase ≡ Some h
+text-value : (q r : LineState) (before : List Word) (h : Phrase) (us : List LineToken) (t : LineToken) → InText q before → (choices q).phrase ≡ Some h
     → Follows (behind h us) t r → (in_text before (tokens.word t) ≡ h.setting) × InText r (tokens.word t ∷ before)
 text-value q r before h us t known some f =
     let good : IsTrue (all_good_behind (λ (a : Arrow). inner a.to) h) =
     subst (λ (o : Option Phrase). IsTrue (all_behind (λ (a : Arrow). inner a.to) o)) some (all-inner q before known).1 in
     let it = taken_behind (λ (a : Arrow). inner a.to) h us f good in
-    (text-setting q r before h us t known some f, inr (subst (λ (r : State). IsTrue (inner r)) it.goes it.good, λ v. refl))
+    (text-setting q r before h us t known some f, inr (subst (λ (r : LineState). IsTrue (inner r)) it.goes it.good, λ v. refl))
 
-open-start : (q : State) → IsTrue (starts q) → is_end q ≡ false
+open-start : (q : LineState) → IsTrue (starts q) → is_end q ≡ false
 open-start state.End s = absurd cc
 open-start q s = refl
 
-pub text-line : {q : State} {row : List Piece} {ts : List LineToken} → lines.Row q row ts → IsTrue (starts q) → Row in_text [] row ts
+pub text-line : {q : LineState} {row : List Piece} {ts : List LineToken} → lines.Row q row ts → IsTrue (starts q) → Row in_text [] row ts
 text-line {q = q} x s = goes-on in_text InText text-token text-value x (inl (s, refl)) (open-start q s)
 
 -- ---- lines of DAT
 
-abbrev dat : State → Bool
+abbrev dat : LineState → Bool
 dat state.LineEnd = true
 dat state.DatHead = true
 dat state.DatLine = true
@@ -430,7 +430,7 @@ dat state.FlagEffect = true
 dat q = false
 
 -- behind a size, and behind the bracket of a count
-abbrev datum : State → Bool
+abbrev datum : LineState → Bool
 datum state.FirstData = true
 datum state.Data = true
 datum state.DataValue = true
@@ -438,7 +438,7 @@ datum state.DataCount = true
 datum state.MoreData = true
 datum q = false
 
-abbrev count : State → Bool
+abbrev count : LineState → Bool
 count state.DataCount = true
 count q = false
 
@@ -465,23 +465,23 @@ same-so false true h = absurd cc
 same-so false false h = refl
 
 -- to a state of DAT that knows of the sizes and brackets before it, or to the end
-abbrev stays : State → Arrow → Bool
+abbrev stays : LineState → Arrow → Bool
 stays q a = is_end a.to || (dat a.to && (same (datum a.to) (sizes a.sign || datum q) && same (count a.to) (opens a.sign)))
 
-abbrev names : State → Arrow → Bool
+abbrev names : LineState → Arrow → Bool
 names q a = same (is_labelled q) (is_label_sign a.sign)
 
-abbrev suits : State → Arrow → Bool
+abbrev suits : LineState → Arrow → Bool
 suits q a = names q a && stays q a
 
-data-suits : (q : State) → IsTrue (if dat q then all_good (suits q) (choices q).arrows && all_behind (suits q) (choices q).phrase else true)
+data-suits : (q : LineState) → IsTrue (if dat q then all_good (suits q) (choices q).arrows && all_behind (suits q) (choices q).phrase else true)
 data-suits state.End = refl
 data-suits q = refl
 
-abbrev wanted : State → Setting
+abbrev wanted : LineState → Setting
 wanted q = if datum q && not (count q) then in_data_item else in_dat
 
-data-same : (q : State) → (if dat q then setting_in (wanted q) (choices q).phrase else wanted q) ≡ wanted q
+data-same : (q : LineState) → (if dat q then setting_in (wanted q) (choices q).phrase else wanted q) ≡ wanted q
 data-same state.End = refl
 data-same q = refl
 
@@ -547,12 +547,12 @@ word-is sign.Write v n before h m = class-is is_write writes-apart v before m
 word-is sign.Label v n before h m = absurd cc
 
 -- what is known of the words before at a state of DAT
-abbrev InData : State → List Word → Type 0
+abbrev InData : LineState → List Word → Type 0
 InData q before = IsTrue (is_end q) ⊎ (IsTrue (dat q) × (list_any is_size before ≡ datum q) × (is_open before ≡ count q))
 
-next-data : (q r : State) (before : List Word) (v : Word) (a : Arrow) → list_any is_size before ≡ datum q → IsTrue (stays q a) → a.to ≡ r
+next-data : (q r : LineState) (before : List Word) (v : Word) (a : Arrow) → list_any is_size before ≡ datum q → IsTrue (stays q a) → a.to ≡ r
     → is_size v ≡ sizes a.sign → is_open (v ∷ before) ≡ opens a.sign → InData r (v ∷ before)
-next-data q r before v a known good goes size ahead = subst (λ (r : State). InData r (v ∷ before)) goes (go (is_end a.to) refl good)
+next-data q r before v a known good goes size ahead = subst (λ (r : LineState). InData r (v ∷ before)) goes (go (is_end a.to) refl good)
   where
     go : (b : Bool) → is_end a.to ≡ b
         → IsTrue (b || (dat a.to && (same (datum a.to) (sizes a.sign || datum q) && same (count a.to) (opens a.sign)))) → InData a.to (v ∷ before)
@@ -566,15 +566,15 @@ next-data q r before v a known good goes size ahead = subst (λ (r : State). InD
           ahead ∙ sym (same-so (count a.to) (opens a.sign) more.1),
         )
 
-ended-no-arrow : (q : State) {t : LineToken} {r : State} → IsTrue (is_end q) → Follows (choices q).arrows t r → ⊥
+ended-no-arrow : (q : LineState) {t : LineToken} {r : LineState} → IsTrue (is_end q) → Follows (choices q).arrows t r → ⊥
 ended-no-arrow q e f = let ahead = open-arrows q f in let never : true ≡ false = sym e ∙ ahead in cc
 
-data-good : (q : State) → IsTrue (dat q) → IsTrue (all_good (suits q) (choices q).arrows) × IsTrue (all_behind (suits q) (choices q).phrase)
+data-good : (q : LineState) → IsTrue (dat q) → IsTrue (all_good (suits q) (choices q).arrows) × IsTrue (all_behind (suits q) (choices q).phrase)
 data-good q d =
     both (all_good (suits q) (choices q).arrows) (all_behind (suits q) (choices q).phrase) (chosen (dat q) _ true d (data-suits q))
 
 -- the word of a token at a state of DAT
-token-word : (q : State) (t : LineToken) (before : List Word) (a : Arrow) → IsTrue (names q a) → Matches a.sign (tokens.word t) (string_length t)
+token-word : (q : LineState) (t : LineToken) (before : List Word) (a : Arrow) → IsTrue (names q a) → Matches a.sign (tokens.word t) (string_length t)
     → (is_size (word_at q t) ≡ sizes a.sign) × (is_open (word_at q t ∷ before) ≡ opens a.sign)
 token-word q t before a named m = go (is_labelled q) refl named
   where
@@ -589,7 +589,7 @@ token-word q t before a named m = go (is_labelled q) refl named
         subst (λ (w : Word). (is_size w ≡ sizes a.sign) × (is_open (w ∷ before) ≡ opens a.sign)) (sym (plain-word q t e))
         (word-is a.sign (tokens.word t) (string_length t) before h m)
 
-data-token : (q r : State) (before : List Word) (t : LineToken) → InData q before → Follows (choices q).arrows t r → InData r (word_at q t ∷ before)
+data-token : (q r : LineState) (before : List Word) (t : LineToken) → InData q before → Follows (choices q).arrows t r → InData r (word_at q t ∷ before)
 data-token q r before t (inl e) f = absurd (ended-no-arrow q e f)
 data-token q r before t (inr known) f =
     let it = taken (suits q) f (data-good q known.0).0 in
@@ -597,12 +597,12 @@ data-token q r before t (inr known) f =
     let w = token-word q t before it.arrow good.0 it.is in
     next-data q r before (word_at q t) it.arrow known.1 good.1 it.goes w.0 w.1
 
-no-label-phrase : (q : State) (h : Phrase) → (choices q).phrase ≡ Some h → is_labelled q ≡ false
+no-label-phrase : (q : LineState) (h : Phrase) → (choices q).phrase ≡ Some h → is_labelled q ≡ false
 no-label-phrase state.DatLabel h some = absurd cc
 no-label-phrase state.CallLocal h some = absurd cc
 no-label-phrase q h some = refl
 
-data-value : (q r : State) (before : List Word) (h : Phrase) (us : List LineToken) (t : LineToken) → InData q before → (choices q).phrase ≡ Some h
+data-value : (q r : LineState) (before : List Word) (h : Phrase) (us : List LineToken) (t : LineToken) → InData q before → (choices q).phrase ≡ Some h
     → Follows (behind h us) t r → (in_data before (tokens.word t) ≡ h.setting) × InData r (tokens.word t ∷ before)
 data-value q r before h us t (inl e) some f = let ahead = open-phrase q h some in let never : true ≡ false = sym e ∙ ahead in absurd cc
 data-value q r before h us t (inr known) some f =
@@ -710,19 +710,19 @@ by-sign sign.Flag t g h m = class-known is_flag flags-known t m
 by-sign sign.Write t g h m = class-known is_write writes-known t m
 by-sign sign.Label t g h m = absurd cc
 
-abbrev tells : State → Arrow → Bool
+abbrev tells : LineState → Arrow → Bool
 tells q a = good_sign a.sign && (names q a && (is_end a.to || dat a.to))
 
-data-tells : (q : State) → IsTrue (if dat q then all_good (tells q) (choices q).arrows && all_behind (tells q) (choices q).phrase else true)
+data-tells : (q : LineState) → IsTrue (if dat q then all_good (tells q) (choices q).arrows && all_behind (tells q) (choices q).phrase else true)
 unfolding part_of_word mnemonics nowhere
 data-tells state.End = refl
 data-tells q = refl
 
-told : (q : State) → IsTrue (dat q) → IsTrue (all_good (tells q) (choices q).arrows) × IsTrue (all_behind (tells q) (choices q).phrase)
+told : (q : LineState) → IsTrue (dat q) → IsTrue (all_good (tells q) (choices q).arrows) × IsTrue (all_behind (tells q) (choices q).phrase)
 told q d = both (all_good (tells q) (choices q).arrows) (all_behind (tells q) (choices q).phrase) (chosen (dat q) _ true d (data-tells q))
 
 -- what a token that takes such an arrow is, and where it leads
-piece-known : (q : State) (t : LineToken) (a : Arrow) → IsTrue (tells q a) → Matches a.sign (tokens.word t) (string_length t)
+piece-known : (q : LineState) (t : LineToken) (a : Arrow) → IsTrue (tells q a) → Matches a.sign (tokens.word t) (string_length t)
     → IsTrue (is_known (part_of_piece (piece_in q t)))
 piece-known q t a h m = elim (labelled q) [
   | inl e ↦
@@ -737,12 +737,12 @@ piece-known q t a h m = elim (labelled q) [
     named : IsTrue (names q a)
     named = (both (names q a) (is_end a.to || dat a.to) it.1).0
 
-leads-on : (q r : State) (a : Arrow) → IsTrue (tells q a) → a.to ≡ r → IsTrue (is_end r || dat r)
+leads-on : (q r : LineState) (a : Arrow) → IsTrue (tells q a) → a.to ≡ r → IsTrue (is_end r || dat r)
 leads-on q r a h goes =
     let it = both (good_sign a.sign) (names q a && (is_end a.to || dat a.to)) h in
-    subst (λ (r : State). IsTrue (is_end r || dat r)) goes (both (names q a) (is_end a.to || dat a.to) it.1).1
+    subst (λ (r : LineState). IsTrue (is_end r || dat r)) goes (both (names q a) (is_end a.to || dat a.to) it.1).1
 
-all-known : {q : State} {row : List Piece} {ts : List LineToken} → lines.Row q row ts → IsTrue (is_end q || dat q)
+all-known : {q : LineState} {row : List Piece} {ts : List LineToken} → lines.Row q row ts → IsTrue (is_end q || dat q)
     → IsTrue (list_all is_known (map part_of_piece row))
 all-known lines.over d = refl
 all-known (lines.token {q = q} {r = r} {row = row} {t = t} f rest) d =
@@ -778,21 +778,21 @@ ends-more x row h = h
 abbrev finishes : Arrow → Bool
 finishes a = if is_end a.to then is_line_end a.sign else dat a.to
 
-data-finishes : (q : State) → IsTrue (if dat q then all_good finishes (choices q).arrows && all_behind finishes (choices q).phrase else true)
+data-finishes : (q : LineState) → IsTrue (if dat q then all_good finishes (choices q).arrows && all_behind finishes (choices q).phrase else true)
 data-finishes state.End = refl
 data-finishes q = refl
 
-finished : (q : State) → IsTrue (dat q) → IsTrue (all_good finishes (choices q).arrows) × IsTrue (all_behind finishes (choices q).phrase)
+finished : (q : LineState) → IsTrue (dat q) → IsTrue (all_good finishes (choices q).arrows) × IsTrue (all_behind finishes (choices q).phrase)
 finished q d = both (all_good finishes (choices q).arrows) (all_behind finishes (choices q).phrase) (chosen (dat q) _ true d (data-finishes q))
 
 -- where such an arrow leads, if not to the end
-on-dat : {t : LineToken} {r : State} → Takes finishes t r → is_end r ≡ false → IsTrue (dat r)
+on-dat : {t : LineToken} {r : LineState} → Takes finishes t r → is_end r ≡ false → IsTrue (dat r)
 on-dat takes ahead =
-    subst (λ (r : State). IsTrue (dat r)) takes.goes
+    subst (λ (r : LineState). IsTrue (dat r)) takes.goes
     (unchosen (is_end takes.arrow.to) (is_line_end takes.arrow.sign) (dat takes.arrow.to) (ap is_end takes.goes ∙ ahead) takes.good)
 
 -- a token and what follows it
-last-or : {r : State} {row : List Piece} {ts : List LineToken} (t : LineToken) → Takes finishes t r → lines.Row r row ts
+last-or : {r : LineState} {row : List Piece} {ts : List LineToken} (t : LineToken) → Takes finishes t r → lines.Row r row ts
     → (IsTrue (dat r) → IsTrue (ends_in row)) → IsTrue (ends_in (piece t ∷ row))
 last-or t takes lines.over later =
     let is : tokens.word t ≡ word.LineEnd =
@@ -804,7 +804,7 @@ last-or t takes (lines.token {q = r} {row = row} {t = u} f rest) later =
 last-or t takes (lines.phrase {q = r} {h = h} {e = e} {row = row} {first = first} {t = u} others some is f rest) later =
     ends-more (piece t) (pieces.tree e first.place ∷ piece u ∷ row) (later (on-dat takes (open-phrase r h some)))
 
-all-ended : {q : State} {row : List Piece} {ts : List LineToken} → lines.Row q row ts → IsTrue (dat q) → IsTrue (ends_in row)
+all-ended : {q : LineState} {row : List Piece} {ts : List LineToken} → lines.Row q row ts → IsTrue (dat q) → IsTrue (ends_in row)
 all-ended lines.over d = absurd cc
 all-ended (lines.token {q = q} {r = r} {row = row} {t = t} f rest) d =
     let it = taken finishes f (finished q d).0 in

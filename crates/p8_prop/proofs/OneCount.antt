@@ -14,7 +14,7 @@ use Rattle.p8_access.specs.Replays.{after}
 use Rattle.p8_access.specs.Timing.{Outcome, Asks, Goes}
 use Rattle.p8_access.specs.Worlds.{World}
 use Rattle.p8_access.proofs.Nexts.{some-injective}
-use Rattle.p8_bcog.specs.declared.state.State.{State}
+use Rattle.p8_bcog.specs.declared.state.SpinState.{SpinState}
 use Rattle.p8_bcog.specs.Counters.{IsAskedFrom, IsCounter}
 use Rattle.p8_bcog.specs.Replay.{engine_of, lived}
 use Rattle.p8_cog.specs.Counters.{IsCounterOf}
@@ -28,11 +28,11 @@ use Rattle.p8_prop.proofs.PasmCounts.{pasm-one}
 
 -- ---- counters
 
-goes-not_asks : {s : State} {begin clock : ℕ} {left : List Turn} {access : Access} → Goes s begin left ≡ Asks clock access → ⊥
+goes-not_asks : {s : SpinState} {begin clock : ℕ} {left : List Turn} {access : Access} → Goes s begin left ≡ Asks clock access → ⊥
 goes-not_asks e = cc
 
 -- no bytecode is done whole after one that asks
-before-asking : (e : Entered) (turns : List Turn) (m n begin clock : ℕ) (s : State) (left : List Turn) (access : Access)
+before-asking : (e : Entered) (turns : List Turn) (m n begin clock : ℕ) (s : SpinState) (left : List Turn) (access : Access)
     → lived m e turns ≡ Asks clock access → lived n e turns ≡ Goes s begin left → m ≤ n → ⊥
 before-asking e turns m n begin clock s left access asking going le =
     let sum : n ≡ n - m + m = omega (arith, le) in
@@ -41,7 +41,7 @@ before-asking e turns m n begin clock s left access asking going le =
     ∙ ap (after (engine_of e.memory e.cog) (n - m)) asking ∙ after-asks (engine_of e.memory e.cog) (n - m) clock access in
     goes-not_asks (sym going ∙ stays)
 
-abbrev at-of : ℕ → Outcome State → ℕ
+abbrev at-of : ℕ → Outcome SpinState → ℕ
 at-of other (Goes s begin left) = s.at
 at-of other _ = other
 

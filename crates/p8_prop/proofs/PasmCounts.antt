@@ -3,13 +3,13 @@ use Rattle.std.proofs.Common.{◌≡◌, ◌∙◌, ◌+◌, ◌-◌, ◌≤◌,
 use Rattle.p8_access.specs.declared.kinds.Access.{Access}
 use Rattle.p8_access.specs.declared.order.Turn.{Turn}
 use Rattle.p8_access.specs.Lives.{Loaded}
-use Rattle.p8_cog.specs.declared.state.State.{State}
+use Rattle.p8_cog.specs.declared.state.PasmState.{PasmState}
 use Rattle.p8_cog.specs.Counters.{IsAskedIn, IsPasmCounter, loaded_from, of_instruction, of_load}
 use Rattle.p8_cog.specs.Replay.{Outcome, Asks, Goes, IsLoading, after, replayed}
 use Rattle.p8_cog.specs.Replaying.{after-asks, after-plus}
 
 -- no instruction is done whole after one that asks
-never-after : (loaded : Loaded) (turns : List Turn) (m n clock : ℕ) (s : State) (left : List Turn) (access : Access)
+never-after : (loaded : Loaded) (turns : List Turn) (m n clock : ℕ) (s : PasmState) (left : List Turn) (access : Access)
     → replayed m loaded turns ≡ Asks clock access → replayed n loaded turns ≡ Goes s left → m ≤ n → ⊥
 never-after loaded turns m n clock s left access asking going le =
     let sum : n ≡ n - m + m = omega (arith, le) in

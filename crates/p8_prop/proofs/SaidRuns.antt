@@ -4,7 +4,7 @@ use Rattle.std.specs.Prelude.{codes, option_and_then, option_map}
 use Rattle.clap.specs.Faults.{fault_of}
 use Rattle.clap.specs.Kinds.{Kinds}
 use Rattle.clap.specs.Walk.{Text}
-use Rattle.p8_commands.specs.declared.kind.ImageKind.{ImageKind}
+use Rattle.p8_commands.specs.declared.image_kind.ImageKind.{ImageKind}
 use Rattle.p8_commands.specs.declared.table.Subcommand.TheVariants as named
 use Rattle.p8_commands.specs.Kinds.{kind_named}
 use Rattle.p8_commands.specs.Table.{subcommand_named}

@@ -7,8 +7,8 @@ use Rattle.p8_tree.specs.Sources.{BlockTree, Source}
 use Rattle.p8_tree.specs.Projects.{NamedSource}
 use Rattle.p8_lexer.specs.Pieces.{Piece}
 use Rattle.p8_columns.specs.Lines as lines
-use Rattle.p8_lines.specs.declared.state.State.{State}
-use Rattle.p8_lines.specs.declared.state.State.TheVariants as state
+use Rattle.p8_lines.specs.declared.state.LineState.{LineState}
+use Rattle.p8_lines.specs.declared.state.LineState.TheVariants as state
 use Rattle.p8_lines.specs.Tokens.{LineToken}
 use Rattle.p8_lines.proofs.Readings.{leads_row}
 use Rattle.p8_blocks.specs.Values.{begins_line}
@@ -27,7 +27,7 @@ use Rattle.p8_prop.proofs.Lining.{outer, starts, is_end, declared-line, head-lin
 
 -- ---- lines
 
-declared : {X : Type 0} {q : State} {value : List Piece → Option X} {x : X} {us : List LineToken} (row : List Piece) → IsTrue (outer q) → is_end q ≡ false
+declared : {X : Type 0} {q : LineState} {value : List Piece → Option X} {x : X} {us : List LineToken} (row : List Piece) → IsTrue (outer q) → is_end q ≡ false
     → files.IsLine within_limits q row us → value row ≡ Some x → said.IsLine said.declared value x us
 declared row own ahead leads is = (row, declared-line (leads_row leads) own ahead, is)
 
@@ -44,14 +44,14 @@ data-one : {xs : List sources.Line} {us : List LineToken} (row : List Piece) →
 data-one {xs = xs} row leads is = (row, data-line (leads_row leads), data-is row xs (line-known (leads_row leads)) is)
 
 -- the lines of a block that isn't a method
-module _ {X : Type 0} (spelled : said.Spelling) (value new : List Piece → Option (List X)) (q : State)
+module _ {X : Type 0} (spelled : said.Spelling) (value new : List Piece → Option (List X)) (q : LineState)
     (one : (xs : List X) (us : List LineToken) (row : List Piece) → files.IsLine within_limits q row us → value row ≡ Some xs → said.IsLine spelled new xs us) where
   declares : {xs : List X} {ts : List LineToken} → files.Declare within_limits value q xs ts → said.Declare spelled new xs ts
   declares files.no_line = said.no_line
   declares (files.a_blank t is rest) = said.a_blank t is (declares rest)
   declares (files.a_line us row leads is rest) = said.a_line (one _ us row leads is) (declares rest)
 
-text-starts : (q : State) → IsTrue (begins_line q) → IsTrue (starts q)
+text-starts : (q : LineState) → IsTrue (begins_line q) → IsTrue (starts q)
 text-starts state.Statement h = refl
 text-starts state.ChainLine h = refl
 text-starts state.LoopEndLine h = refl

@@ -5,13 +5,13 @@
 
 mod answer;
 mod code;
+mod command_answers;
 mod driver;
 mod laws;
 mod page;
 mod run_laws;
 mod saved_laws;
 mod status;
-mod text;
 mod top;
 mod view;
 mod work;

@@ -5,8 +5,8 @@ ghost use Rattle.p8_commands.specs.Seen.{command_if_any, HasLimits};
 ghost use Rattle.p8_prop.specs.Promises.{Keeps};
 
 use crate::answer::{answered, stopped, unsaid};
+use crate::command_answers::{answer_alone, answer_by_crew};
 use crate::status::Status;
-use crate::text::{answer_alone, answer_by_crew};
 use p8_commands::{Command, command_in};
 use p8_crew::Starter;
 use p8_inputs::{Stop, one_reading};

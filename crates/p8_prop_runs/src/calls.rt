@@ -20,7 +20,7 @@ const STARTS: u64 = 8;
 
 /// How the turns of a run are made.
 #[derive(Clone, Copy)]
-pub enum Way {
+pub enum RunMode {
     /// By one thread alone, which waits for nobody.
     Alone,
     /// By the crew of the program, twice.
@@ -188,15 +188,15 @@ impl<'a, R: Threads + Wait + Files + Alloc<A = Global> + Clone + Send + Drop + '
     /// # Errors
     ///
     /// Want of memory outside the call.
-    pub fn agrees(&mut self, case: &Case, way: Way) -> anyhow::Result<bool> {
+    pub fn agrees(&mut self, case: &Case, way: RunMode) -> anyhow::Result<bool> {
         match way {
-            Way::Alone => Ok(self.left_alone(&case.alone)?.is_text(&case.text)),
-            Way::Threads => self.agrees_twice(case),
-            Way::Watched => self.workers_end(case, 0),
-            Way::Refused => self.agrees_refused(case),
-            Way::Unrefused => self.workers_end(case, STARTS + 1),
-            Way::Meeting => self.two_between_turns(case),
-            Way::Refusal => self.is_refused(case),
+            RunMode::Alone => Ok(self.left_alone(&case.alone)?.is_text(&case.text)),
+            RunMode::Threads => self.agrees_twice(case),
+            RunMode::Watched => self.workers_end(case, 0),
+            RunMode::Refused => self.agrees_refused(case),
+            RunMode::Unrefused => self.workers_end(case, STARTS + 1),
+            RunMode::Meeting => self.two_between_turns(case),
+            RunMode::Refusal => self.is_refused(case),
         }
     }
 }

@@ -12,7 +12,7 @@ mod holding;
 mod meeting;
 mod watching;
 
-use calls::{Calls, Way};
+use calls::{Calls, RunMode};
 use cases::{Case, cases_in, held_cases_in};
 use std::alloc::Global;
 use std::fs::Files;
@@ -21,26 +21,34 @@ use std::sync::Wait;
 use std::thread::Threads;
 
 /// How commands are carried out, the file that has them, and what is printed of them.
-const WAYS: [(Way, &str, &str); 7] = [
-    (Way::Alone, "cases.txt", "by one thread alone"),
-    (Way::Threads, "cases.txt", "by eight threads, twice"),
+const WAYS: [(RunMode, &str, &str); 7] = [
+    (RunMode::Alone, "cases.txt", "by one thread alone"),
+    (RunMode::Threads, "cases.txt", "by eight threads, twice"),
     (
-        Way::Watched,
+        RunMode::Watched,
         "cases.txt",
         "all eight began with an untouched pass and ended with one that was over",
     ),
     (
-        Way::Refused,
+        RunMode::Refused,
         "cases.txt",
         "with each of eight starts refused",
     ),
-    (Way::Unrefused, "cases.txt", "with a ninth start refused"),
     (
-        Way::Meeting,
+        RunMode::Unrefused,
+        "cases.txt",
+        "with a ninth start refused",
+    ),
+    (
+        RunMode::Meeting,
         "meeting.txt",
         "two callers of Desk::turn met between two turns",
     ),
-    (Way::Refusal, "refusals.txt", "refused with status and line"),
+    (
+        RunMode::Refusal,
+        "refusals.txt",
+        "refused with status and line",
+    ),
 ];
 
 /// How many commands there were, and how many of them agreed.
@@ -63,7 +71,7 @@ impl Tally {
 fn run_all<R: Threads + Wait + Files + Alloc<A = Global> + Clone + Send + Drop + 'static>(
     calls: &mut Calls<'_, R>,
     cases: &[Case],
-    way: Way,
+    way: RunMode,
 ) -> anyhow::Result<Tally> {
     let mut tally = Tally { agreed: 0, all: 0 };
     for case in cases {

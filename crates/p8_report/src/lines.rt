@@ -96,7 +96,7 @@ pub fn lines(alloc: Global, first: Origin, turns: &[Turn]) -> Result<Vec<u8>, No
     let mut at = 0;
     for turn in turns {
         at = add_line(&mut out, &mut page, at, &mut front, &origins, turn)?;
-        origins.note(turn);
+        origins.record_turn(turn);
     }
     out.extend_from_slice(&page[..at])?;
     Ok(out)

@@ -53,7 +53,7 @@ impl Origins {
 
     /// Takes note of a turn.
     #[inline]
-    pub fn note(&mut self, turn: &Turn)
+    pub fn record_turn(&mut self, turn: &Turn)
         ensures { (w : World) (past : List Turn) → AreOrigins w past self.old → AreOrigins w (turn.now ∷ past) self.new }
     {
         match turn.access {

@@ -5,7 +5,7 @@ use Rattle.p8_tree.specs.declared.places.Place.{Place}
 use Rattle.p8_tree.specs.Expressions.{Tree}
 use Rattle.p8_lexer.specs.Pieces.{Piece, word, tree}
 use Rattle.p8_statements.specs.declared.role.Role.{Role}
-use Rattle.p8_statements.specs.declared.row.Sign.{Sign}
+use Rattle.p8_statements.specs.declared.statement_pieces.Sign.{Sign}
 use Rattle.p8_statements.specs.Roles.{role_of}
 use Rattle.p8_statements.specs.Rows.{Reading, ◌▶◌, word_in, phrase, is_end, ended, ends, ending, value_in}
 use Rattle.p8_lexer.specs.Proper.{IsProperUpTo, AreProper}

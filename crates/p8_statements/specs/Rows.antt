@@ -5,7 +5,7 @@ use Rattle.p8_tree.specs.Expressions.{Tree}
 use Rattle.p8_lexer.specs.declared.word.Word.{Word}
 use Rattle.p8_lexer.specs.Pieces.{Piece, word, tree}
 use Rattle.p8_statements.specs.declared.role.Role.{Role}
-use Rattle.p8_statements.specs.declared.row.Sign.{Sign}
+use Rattle.p8_statements.specs.declared.statement_pieces.Sign.{Sign}
 use Rattle.p8_statements.specs.Roles.{role_of, is_line_end}
 
 abbrev pub Reading : Type 0 → Type 0

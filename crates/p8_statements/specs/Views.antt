@@ -5,19 +5,19 @@ use Rattle.p8_tree.specs.Views.{tree_of, item_of}
 use Rattle.std.specs.Vec.Iter.{into_iter_items}
 use Rattle.p8_lexer.specs.Pieces.{Piece, pieces_of}
 use Rattle.p8_statements.specs.declared.role.Role.{Role}
-use Rattle.p8_statements.specs.declared.row.Row.{Row}
-use Rattle.p8_statements.specs.declared.row.Phrase.{Phrase}
+use Rattle.p8_statements.specs.declared.statement_pieces.StatementPieces.{StatementPieces}
+use Rattle.p8_statements.specs.declared.statement_pieces.Phrase.{Phrase}
 use Rattle.p8_statements.specs.declared.statements.Tested.{Tested}
 use Rattle.p8_statements.specs.Roles.{is_comma}
 use Rattle.p8_statements.specs.Rows.{Reading}
 use Rattle.p8_statements.specs.Statements.{is_last_colon, tests_after}
 
 -- what is left of a row
-abbrev pub rest_of : Row → List Piece
+abbrev pub rest_of : StatementPieces → List Piece
 rest_of r = pieces_of (into_iter_items r.pieces)
 
 -- what was read, with the rest of the row
-abbrev pub reading : {X Y : Type 0} → (X → Y) → Option X → Row → Reading Y
+abbrev pub reading : {X Y : Type 0} → (X → Y) → Option X → StatementPieces → Reading Y
 reading view o r = option_map (λ x. (view x, rest_of r)) o
 
 abbrev pub phrase_of : Phrase → Tree × Role

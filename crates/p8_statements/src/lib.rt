@@ -3,7 +3,7 @@
 
 mod laws;
 mod role;
-mod row;
+mod statement_pieces;
 mod statements;
 
 pub use laws::kinds_are_proper;

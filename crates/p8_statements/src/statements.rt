@@ -12,9 +12,9 @@ ghost use Rattle.p8_statements.specs.Statements.{line, is_last_colon, other_line
 ghost use Rattle.p8_statements.specs.Views.{rest_of, with_test};
 
 use crate::role::{Role, role_of};
-use crate::row::{Phrase, Row};
+use crate::statement_pieces::{Phrase, StatementPieces};
 use p8_columns::{Action, LineKind};
-use p8_lexer::{Piece, without};
+use p8_lexer::{Piece, discarding};
 use p8_tree::{Expr, ExprKind, Item, List, Loop, Place, Target, Text};
 use p8_words::NoMemory;
 use std::alloc::{AllocError, Global};
@@ -28,7 +28,7 @@ pub fn line_kind(alloc: Global, pieces: Vec<Piece>) -> Result<Option<LineKind>, 
     ensures { IfOk result (λ o. option_map kind_of o ≡ kind_of_row (pieces_of pieces.items)) }
 {
     let is_item = is_item(&pieces);
-    let mut row = Row::new(pieces);
+    let mut row = StatementPieces::new(pieces);
     if is_item {
         row.item(alloc)
     } else {
@@ -59,7 +59,7 @@ fn counter_of(kind: ExprKind) -> Option<(Text, Place)>
 {
     match kind {
         ExprKind::Var(target) => name_alone(target),
-        other => without(other, None),
+        other => discarding(other, None),
     }
 }
 
@@ -69,7 +69,7 @@ fn name_alone(target: Target) -> Option<(Text, Place)>
 {
     match target {
         Target::Named(name, None, place) => Some((name, place)),
-        other => without(other, None),
+        other => discarding(other, None),
     }
 }
 
@@ -80,7 +80,7 @@ struct Tested {
     behind: Role,
 }
 
-impl Row {
+impl StatementPieces {
     // A value, or the end of the line.
     fn maybe_value(&mut self) -> Option<Option<Expr>>
         ensures { option_map (option_map tree_of) result ≡ maybe_value (rest_of self.old) }
@@ -88,7 +88,7 @@ impl Row {
         match self.next()? {
             Piece::Word(word, _) => self.no_value(role_of(word)),
             Piece::Tree(tree, _) => self.last_value(tree),
-            other => without(other, None),
+            other => discarding(other, None),
         }
     }
 
@@ -135,7 +135,7 @@ impl Row {
     {
         match self.value() {
             Some(step) => Some(Loop::From(name, first, last, Some(step), place)),
-            None => without(first, without(last, None)),
+            None => discarding(first, discarding(last, None)),
         }
     }
 
@@ -178,7 +178,7 @@ impl Row {
     {
         match self.phrase() {
             Some(Phrase { tree, behind }) => self.counted(name, place, first, tree, behind),
-            None => without(first, None),
+            None => discarding(first, None),
         }
     }
 
@@ -242,7 +242,7 @@ impl Row {
         match self.next()? {
             Piece::Word(word, _) => self.course_before(role_of(word)),
             Piece::Tree(tree, _) => self.course_behind(tree),
-            other => without(other, None),
+            other => discarding(other, None),
         }
     }
 
@@ -252,7 +252,7 @@ impl Row {
     {
         match self.word() {
             Some(sign) => self.course_by(tree, sign.role),
-            None => without(tree, None),
+            None => discarding(tree, None),
         }
     }
 
@@ -313,7 +313,7 @@ impl Row {
                 },
                 behind: last.behind,
             }),
-            None => without(low, None),
+            None => discarding(low, None),
         }
     }
 
@@ -399,7 +399,7 @@ impl Row {
         match self.next()? {
             Piece::Word(word, _) => self.line(role_of(word)),
             Piece::Tree(tree, _) => self.ending(LineKind::Plain(Action::Do(tree))),
-            other => without(other, None),
+            other => discarding(other, None),
         }
     }
 }

@@ -17,7 +17,7 @@ use crate::faults::first_fault;
 use crate::frames::{MethodSize, frame_longs, is_too_large, longs_in};
 use crate::spelling::{place_uses, put_ops};
 use crate::statement_depths::held_in;
-use p8_gen::{Coder, Kept, Line, StringUse, Tables, Way, Writer};
+use p8_gen::{Coder, Jump, Kept, Line, StringUse, Tables, Writer};
 use p8_kinds::Kinds;
 use p8_tree::{Fault, List, Method, Stmt, Text};
 use p8_words::{Fail, NoMemory};
@@ -139,7 +139,7 @@ pub fn method_ways(
     number: u32,
     body: &[Stmt],
     widths: &[bool],
-) -> Result<List<Way>, NoMemory>
+) -> Result<List<Jump>, NoMemory>
     ensures { IfOk result (λ ways. map way_of ways ≡
         (methods.method_code (widened (names_from kinds.now number tables.now method.now.place) (wide_in widths.now)) (statements_of body.now)).ways) }
 {

@@ -10,14 +10,14 @@ ghost use Rattle.p8_stmt.specs.Jumps.{IsLeast};
 ghost use Rattle.p8_stmt.specs.Rounds.{widened_from, after_round, IsBelowAll};
 
 use crate::code::method_ways;
-use p8_gen::{Tables, Way};
+use p8_gen::{Jump, Tables};
 use p8_kinds::Kinds;
 use p8_tree::{Method, Stmt};
 use p8_words::NoMemory;
 use std::alloc::{AllocError, Global};
 
 // Whether the offset of a jump fits in one byte.
-fn is_near(way: Way) -> bool
+fn is_near(way: Jump) -> bool
     ensures { result ≡ is_near false way.from way.to }
 {
     let (from, to) = (u64::from(way.from), u64::from(way.to));
@@ -35,7 +35,7 @@ fn is_wide(widths: &[bool], number: usize) -> bool
 }
 
 // Whether the jump of a number is wide after a round.
-fn is_widened(widths: &[bool], number: usize, way: &Way) -> bool
+fn is_widened(widths: &[bool], number: usize, way: &Jump) -> bool
     ensures { result ≡ (wide_in widths.now number || not (is_near false way.now.from way.now.to)) }
 {
     is_wide(widths, number) || !is_near(*way)
@@ -51,7 +51,7 @@ fn narrow(alloc: Global, count: usize) -> Result<Vec<bool>, AllocError>
 }
 
 // The choice with each jump more whose offset doesn't fit in one byte, by the ways of all jumps.
-fn with_far_jumps(alloc: Global, widths: &[bool], ways: &[Way]) -> Result<Vec<bool>, AllocError>
+fn with_far_jumps(alloc: Global, widths: &[bool], ways: &[Jump]) -> Result<Vec<bool>, AllocError>
     ensures { IfOk result (λ more. more.items ≡ widened_from widths.now 0 (map way_of ways.now)) }
 {
     let mut more = Vec::with_capacity(alloc, ways.len())?;

@@ -1,11 +1,11 @@
 // The line of a case.
 use crate::dats::DatBlocks;
+use crate::instruction_texts::Printed;
 use crate::names::Names;
 use crate::projects::{Command, Unbuilt, Written};
 use crate::runs::Run;
 use crate::sources::Source;
 use crate::stops::Stopped;
-use crate::texts::Printed;
 use crate::trees::Tree;
 use anyhow::anyhow;
 use p8_inputs::Format;

@@ -6,12 +6,12 @@
 
 mod cases;
 mod dats;
+mod instruction_texts;
 mod names;
 mod projects;
 mod runs;
 mod sources;
 mod stops;
-mod texts;
 mod trees;
 
 use cases::Case;

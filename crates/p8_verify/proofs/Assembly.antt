@@ -15,10 +15,10 @@ use Rattle.p8_alu.specs.declared.effect.Effect.{Effect}
 use Rattle.p8_alu.specs.Effects.{is_set}
 use Rattle.p8_instr.specs.declared.instruction.Instr.{Instr}
 use Rattle.p8_instr.specs.Instruction.{bit_range, is_immediate, writes_result}
-use Rattle.p8_cog.specs.declared.kind.Kind.{Kind}
-use Rattle.p8_cog.specs.declared.kind.Kind.TheVariants.{Skipped, Halting, OfHub, Waiting, Computing}
+use Rattle.p8_cog.specs.declared.instruction_kind.InstructionKind.{InstructionKind}
+use Rattle.p8_cog.specs.declared.instruction_kind.InstructionKind.TheVariants.{Skipped, Halting, OfHub, Waiting, Computing}
 use Rattle.p8_cog.specs.declared.hub.Request.{Request}
-use Rattle.p8_cog.specs.declared.state.State.{State}
+use Rattle.p8_cog.specs.declared.state.PasmState.{PasmState}
 use Rattle.p8_cog.specs.Instructions.{cnt_register, ina_register, outa_register, dira_register, ctra_register, hubop, clkset, cogid}
 use Rattle.p8_cog.specs.Instructions.{coginit, cogstop, locknew, lockret, lockset, kind_of, width_of, source_access}
 use Rattle.p8_cog.specs.Replay.{Course, Ask, Go, End, ask, halt, at_hand, next_of, fetched_before, passed, hub_address, test_of, destination_value}
@@ -48,7 +48,7 @@ if-request : (b : Bool) {x y : Request} → RequestNamed x → RequestNamed y �
 if-request true h k = h
 if-request false h k = k
 
-done : (s : State) → Names (Go s)
+done : (s : PasmState) → Names (Go s)
 done s = record { all = tt }
 
 ended : Names End
@@ -72,13 +72,13 @@ register-named register result below =
 destination-below : (long : ℕ) → bit_range long 17 9 < 512
 destination-below long = omega arith
 
-result-named : (s : State) (result : ℕ) → OptionNamed (result_access (at_hand s) result)
+result-named : (s : PasmState) (result : ℕ) → OptionNamed (result_access (at_hand s) result)
 result-named s result = if-option (writes_result (at_hand s)) (register-named (at_hand s).dest result (destination-below s.long)) none-named
 
 asks-named : (clock : ℕ) (access : Access) (go : Turn → Course) → IsProperHalt access → ((turn : Turn) → Names (go turn)) → Names (Ask clock access go)
 asks-named clock access go h k = record { all = (h, λ turn. (k turn).all) }
 
-sourced-named : (o : Option Access) (clock : ℕ) (s : State) (go : ℕ → Course) → OptionNamed o →
+sourced-named : (o : Option Access) (clock : ℕ) (s : PasmState) (go : ℕ → Course) → OptionNamed o →
     ((source : ℕ) → Names (go source)) → Names (sourced_by o clock s go)
 sourced-named None clock s go h k = k (source_value s)
 sourced-named (Some access) clock s go h k = asks-named clock access _ h.some (λ turn. k (value_of turn.answer))
@@ -86,14 +86,14 @@ sourced-named (Some access) clock s go h k = asks-named clock access _ h.some (�
 ask-named : (cog clock : ℕ) (access : Access) (go : Turn → Course) → IsProperHalt access → ((turn : Turn) → Names (go turn)) → Names (ask cog clock access go)
 ask-named cog clock access go h k = asks-named clock access _ h (λ turn. if-course (is_last cog access) ended (k turn))
 
-written-named : (o : Option Access) (cog clock : ℕ) (next : State) → OptionNamed o → Names (written_by o cog clock next)
+written-named : (o : Option Access) (cog clock : ℕ) (next : PasmState) → OptionNamed o → Names (written_by o cog clock next)
 written-named None cog clock next h = done next
 written-named (Some access) cog clock next h = ask-named cog clock access (λ turn. Go next) h.some (λ turn. done next)
 
-write-named : (cog : ℕ) (s : State) (x : Effect) (clock : ℕ) (next : State) → Names (write cog s x clock next)
+write-named : (cog : ℕ) (s : PasmState) (x : Effect) (clock : ℕ) (next : PasmState) → Names (write cog s x clock next)
 write-named cog s x clock next = written-named (result_access (at_hand s) x.result) cog clock next (result-named s x.result)
 
-ends-named : (cog : ℕ) (s : State) (x : Effect) (clock : ℕ) → Names (ends_after cog s x clock)
+ends-named : (cog : ℕ) (s : PasmState) (x : Effect) (clock : ℕ) → Names (ends_after cog s x clock)
 ends-named cog s x clock = write-named cog s x clock (fetched_before s x (next_of s) (clock + 1))
 
 operation-named : (operation value : ℕ) → RequestNamed (operation_request operation value)
@@ -116,14 +116,14 @@ move-named i width value source =
 hub-named : (i : Instr) (value source : ℕ) → RequestNamed (hub_request i value source)
 hub-named i value source = if-request (i.opcode == hubop) (operation-named (source % 8) value) (move-named i (width_of i.opcode) value source)
 
-uses_hub-named : (cog : ℕ) (s : State) (source : ℕ) → Names (use_hub cog s source)
+uses_hub-named : (cog : ℕ) (s : PasmState) (source : ℕ) → Names (use_hub cog s source)
 uses_hub-named cog s source =
     let r = hub_request (at_hand s) (destination_value s) source in
     ask-named cog (window_of cog (s.clock + 1)) r.access (λ turn. ends_after cog s (answered r.kept turn.answer) (turn.key.clock + 6))
     (hub-named (at_hand s) (destination_value s) source).asks.halts
     (λ turn. ends-named cog s (answered r.kept turn.answer) (turn.key.clock + 6))
 
-wait-named : (cog : ℕ) (s : State) (source : ℕ) → Names (wait cog s source)
+wait-named : (cog : ℕ) (s : PasmState) (source : ℕ) → Names (wait cog s source)
 wait-named cog s source =
     ask-named cog (s.clock + 4) (Wait (test_of (at_hand s).opcode (destination_value s) source))
     (λ turn. ends_after cog s (wait_effect (at_hand s).opcode (destination_value s) source) (turn.key.clock + 1)) tt
@@ -132,7 +132,7 @@ wait-named cog s source =
 halts-named : (clock : ℕ) (reason : Reason) → IsProperReason reason → Names (halt clock reason)
 halts-named clock reason h = asks-named clock (Halt reason) (λ turn. End) h (λ turn. ended)
 
-does-named : (kind : Kind) (cog : ℕ) (s : State) → Names (does kind cog s)
+does-named : (kind : InstructionKind) (cog : ℕ) (s : PasmState) → Names (does kind cog s)
 does-named Skipped cog s = done (passed s)
 does-named Halting cog s = halts-named s.clock (Opcode s.long) tt
 does-named OfHub cog s = sourced-named (source_access (at_hand s)) s.clock s (use_hub cog s) (source-named (at_hand s)) (uses_hub-named cog s)

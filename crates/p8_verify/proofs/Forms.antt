@@ -4,20 +4,20 @@ use Rattle.std.proofs.lemmas.List.Elements.{All-nil, All-cons, All-head, All-tai
 use Rattle.byteorder.specs.Endian.{little_number}
 use Rattle.byteorder.specs.Numbers.{little_number-reads_back}
 use Rattle.p8_access.specs.declared.order.Turn.{Turn}
-use Rattle.p8_verify.specs.declared.head.Head.{Head}
+use Rattle.p8_verify.specs.declared.head.HistoryHead.{HistoryHead}
 use Rattle.p8_verify.specs.Table.{turn_bytes, IsWithin, IsRecord, NoRecord}
 use Rattle.p8_verify.specs.Files.{head_bytes, records, IsHeadWithin, IsHead, AreRecords, BreaksAt}
 use Rattle.p8_verify.proofs.Back.{one-record}
 
 -- the numbers of a head stand in its bytes
-head-in : List ℕ → Head
+head-in : List ℕ → HistoryHead
 head-in bytes = record {
   clocks = little_number 4 (drop 4 bytes);
   turns = little_number 4 (drop 8 bytes);
   count = little_number 4 (drop 12 bytes);
 }
 
-head-back : (head : Head) (rest : List ℕ) → IsHeadWithin head → head-in (head_bytes head ++ rest) ≡ head
+head-back : (head : HistoryHead) (rest : List ℕ) → IsHeadWithin head → head-in (head_bytes head ++ rest) ≡ head
 unfolding head-in
 head-back head rest within =
     let clocks = little_number-reads_back 4 head.clocks [] (let h = within.clocks in omega arith) in
@@ -25,7 +25,7 @@ head-back head rest within =
     let count = little_number-reads_back 4 head.count [] (let h = within.count in omega arith) in
     λ i. record { clocks = clocks i; turns = turns i; count = count i }
 
-pub one-head : (bytes : List ℕ) (h k : Head) (x y : List ℕ) → IsHead bytes h x → IsHead bytes k y → (h ≡ k) × (x ≡ y)
+pub one-head : (bytes : List ℕ) (h k : HistoryHead) (x y : List ℕ) → IsHead bytes h x → IsHead bytes k y → (h ≡ k) × (x ≡ y)
 one-head bytes h k x y p q =
     let same : head_bytes h ++ x ≡ head_bytes k ++ y = sym p.bytes_are ∙ q.bytes_are in
     (sym (head-back h x p.within) ∙ ap head-in same ∙ head-back k y q.within, ap (drop 16) same)

@@ -8,7 +8,7 @@ use Rattle.p8_access.specs.Worlds.{World, Line}
 use Rattle.p8_access.specs.Histories.{Ended}
 use Rattle.p8_cog.specs.Lives.{asks}
 use Rattle.p8_ledger.specs.Worlds.{world_of}
-use Rattle.p8_verify.specs.declared.head.Head.{Head}
+use Rattle.p8_verify.specs.declared.head.HistoryHead.{HistoryHead}
 use Rattle.p8_verify.specs.declared.verdicts.Verdict.{Verdict}
 use Rattle.p8_verify.specs.declared.verdicts.Verdict.TheVariants.{Good, Bad}
 use Rattle.p8_verify.specs.Table.{IsWithin}
@@ -18,13 +18,13 @@ use Rattle.p8_verify.proofs.Forms.{one-head, one-list, whole, one-break}
 use Rattle.p8_verify.proofs.Judging.{one-judgement, good-ends, ends-good}
 
 -- a file that is formed isn't malformed
-formed : (bytes : List ℕ) (head : Head) (turns : List Turn) (at : ℕ) → IsFormed bytes head turns → IsMalformed bytes at → ⊥
+formed : (bytes : List ℕ) (head : HistoryHead) (turns : List Turn) (at : ℕ) → IsFormed bytes head turns → IsMalformed bytes at → ⊥
 formed bytes head turns at is malformed = elim malformed [
   | inl none ↦ none.0 head is.0 is.1
   | inr breaks ↦
       (let same = one-head bytes head breaks.0 is.0 breaks.1 is.1 breaks.2 in
       let are = subst (λ (xs : List ℕ). AreRecords head.count xs turns) same.1 is.2 in
-      whole breaks.0.count 1 breaks.1 turns at (subst (λ (h : Head). AreRecords h.count breaks.1 turns) same.0 are) breaks.3)
+      whole breaks.0.count 1 breaks.1 turns at (subst (λ (h : HistoryHead). AreRecords h.count breaks.1 turns) same.0 are) breaks.3)
 ]
 
 -- it is malformed from one turn on
@@ -38,7 +38,7 @@ one-malformed bytes a b p q = elim p [
     | inl none ↦ absurd (none.0 one.0 one.1 one.2)
     | inr other ↦
         (let same = one-head bytes one.0 other.0 one.1 other.1 one.2 other.2 in
-        one-break other.0.count 1 other.1 a b (subst (λ (h : Head). BreaksAt h.count 1 other.1 a) same.0 (subst (λ (xs : List ℕ). BreaksAt one.0.count 1 xs a) same.1 one.3)) other.3)
+        one-break other.0.count 1 other.1 a b (subst (λ (h : HistoryHead). BreaksAt h.count 1 other.1 a) same.0 (subst (λ (xs : List ℕ). BreaksAt one.0.count 1 xs a) same.1 one.3)) other.3)
   ]
 ]
 
@@ -48,8 +48,8 @@ module _ (boot : Boot) (script : List Line) (bytes : List ℕ) where
   one-by-turns v u p q =
       let head = one-head bytes p.0 q.0 p.2.0 q.2.0 p.2.1 q.2.1 in
       let are = subst (λ (xs : List ℕ). AreRecords p.0.count xs p.1) head.1 p.2.2 in
-      let turns = one-list q.0.count q.2.0 p.1 q.1 (subst (λ (h : Head). AreRecords h.count q.2.0 p.1) head.0 are) q.2.2 in
-      let judged : Judged (world_by boot script q.0) [] q.1 v = subst (λ (ts : List Turn). Judged (world_by boot script q.0) [] ts v) turns (subst (λ (h : Head). Judged (world_by boot script h) [] p.1 v) head.0 p.3) in
+      let turns = one-list q.0.count q.2.0 p.1 q.1 (subst (λ (h : HistoryHead). AreRecords h.count q.2.0 p.1) head.0 are) q.2.2 in
+      let judged : Judged (world_by boot script q.0) [] q.1 v = subst (λ (ts : List Turn). Judged (world_by boot script q.0) [] ts v) turns (subst (λ (h : HistoryHead). Judged (world_by boot script h) [] p.1 v) head.0 p.3) in
       one-judgement (world_by boot script q.0) [] q.1 v u judged q.3
 
   -- a file has one verdict

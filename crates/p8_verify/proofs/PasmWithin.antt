@@ -21,10 +21,10 @@ use Rattle.p8_alu.specs.declared.effect.Effect.{Effect}
 use Rattle.p8_alu.specs.Effects.{is_set}
 use Rattle.p8_instr.specs.declared.instruction.Instr.{Instr}
 use Rattle.p8_instr.specs.Instruction.{bit_range, is_immediate, writes_result}
-use Rattle.p8_cog.specs.declared.kind.Kind.{Kind}
-use Rattle.p8_cog.specs.declared.kind.Kind.TheVariants.{Skipped, Halting, OfHub, Waiting, Computing}
+use Rattle.p8_cog.specs.declared.instruction_kind.InstructionKind.{InstructionKind}
+use Rattle.p8_cog.specs.declared.instruction_kind.InstructionKind.TheVariants.{Skipped, Halting, OfHub, Waiting, Computing}
 use Rattle.p8_cog.specs.declared.hub.Request.{Request}
-use Rattle.p8_cog.specs.declared.state.State.{State}
+use Rattle.p8_cog.specs.declared.state.PasmState.{PasmState}
 use Rattle.p8_cog.specs.Instructions.{par_register, inb_register, cnt_register, ina_register, outa_register, dira_register, ctra_register, hubop}
 use Rattle.p8_cog.specs.Instructions.{clkset, cogid}
 use Rattle.p8_cog.specs.Instructions.{coginit, cogstop, locknew, lockret, lockset, waitpeq, waitpne, waitcnt, djnz, kind_of, width_of, source_access}
@@ -46,7 +46,7 @@ pub record Sound (registers : List ℕ) (par long : ℕ) : Type 0 where
   pub par_word : par < 2 ^ 32
   pub long_word : long < 2 ^ 32
 
-abbrev pub IsSound : State → Type 0
+abbrev pub IsSound : PasmState → Type 0
 IsSound s = Sound s.registers s.par s.long
 
 -- ---- courses
@@ -64,7 +64,7 @@ if-course : (b : Bool) {x y : Course} → Holds x → Holds y → Holds (if b th
 if-course true h k = h
 if-course false h k = k
 
-done : (s : State) → IsSound s → Holds (Go s)
+done : (s : PasmState) → IsSound s → Holds (Go s)
 done s h = record { all = h }
 
 ended : Holds End
@@ -89,10 +89,10 @@ nine-bits long = omega arith
 destination-below : (long : ℕ) → bit_range long 17 9 < 512
 destination-below long = omega arith
 
-destination-word : (s : State) → IsSound s → destination_value s < 2 ^ 32
+destination-word : (s : PasmState) → IsSound s → destination_value s < 2 ^ 32
 destination-word s h = index-word s.registers (at_hand s).dest h.words
 
-source-word : (s : State) → IsSound s → source_value s < 2 ^ 32
+source-word : (s : PasmState) → IsSound s → source_value s < 2 ^ 32
 source-word s h =
     if-word (is_immediate (at_hand s)) (nine-bits s.long)
     (if-word ((at_hand s).source == par_register) h.par_word
@@ -104,7 +104,7 @@ source-holds i =
     (if-option (i.source == cnt_register) (record { some = tt })
     (if-option (i.source == ina_register) (record { some = tt }) none-within))
 
-sourced-hold : (o : Option Access) (clock : ℕ) (s : State) (go : ℕ → Course) → OptionWithin o → IsSound s →
+sourced-hold : (o : Option Access) (clock : ℕ) (s : PasmState) (go : ℕ → Course) → OptionWithin o → IsSound s →
     ((source : ℕ) → source < 2 ^ 32 → Holds (go source)) → Holds (sourced_by o clock s go)
 sourced-hold None clock s go h sound k = k (source_value s) (source-word s sound)
 sourced-hold (Some access) clock s go h sound k = asks-hold clock access _ h.some (λ turn is. k (value_of turn.answer) (value-word turn.answer is))
@@ -115,19 +115,19 @@ if-registers : (b : Bool) (xs ys : List ℕ) → All IsWord xs → All IsWord ys
 if-registers true xs ys h k = h
 if-registers false xs ys h k = k
 
-registers-sound : (s : State) (e : Effect) → IsSound s → e.result < 2 ^ 32 → All IsWord (registers_with s e)
+registers-sound : (s : PasmState) (e : Effect) → IsSound s → e.result < 2 ^ 32 → All IsWord (registers_with s e)
 registers-sound s e h low = if-registers (writes_result (at_hand s)) _ s.registers (All-set IsWord s.registers (at_hand s).dest e.result low h.words) h.words
 
-goes-sound : (s : State) (e : Effect) (address long clock : ℕ) → IsSound s → e.result < 2 ^ 32 → long < 2 ^ 32 → IsSound (goes_on s e address long clock)
+goes-sound : (s : PasmState) (e : Effect) (address long clock : ℕ) → IsSound s → e.result < 2 ^ 32 → long < 2 ^ 32 → IsSound (goes_on s e address long clock)
 goes-sound s e address long clock h low word = record { words = registers-sound s e h low; par_word = h.par_word; long_word = word }
 
-before-sound : (s : State) (e : Effect) (address clock : ℕ) → IsSound s → e.result < 2 ^ 32 → IsSound (fetched_before s e address clock)
+before-sound : (s : PasmState) (e : Effect) (address clock : ℕ) → IsSound s → e.result < 2 ^ 32 → IsSound (fetched_before s e address clock)
 before-sound s e address clock h low = goes-sound s e address _ clock h low (index-word s.registers address h.words)
 
-after-sound : (s : State) (e : Effect) (address clock : ℕ) → IsSound s → e.result < 2 ^ 32 → IsSound (fetched_after s e address clock)
+after-sound : (s : PasmState) (e : Effect) (address clock : ℕ) → IsSound s → e.result < 2 ^ 32 → IsSound (fetched_after s e address clock)
 after-sound s e address clock h low = goes-sound s e address _ clock h low (index-word (registers_with s e) address (registers-sound s e h low))
 
-passed-sound : (s : State) → IsSound s → IsSound (passed s)
+passed-sound : (s : PasmState) → IsSound s → IsSound (passed s)
 passed-sound s h = record { words = h.words; par_word = h.par_word; long_word = index-word s.registers (next_of s) h.words }
 
 register-holds : (register result : ℕ) → register < 512 → result < 2 ^ 32 → OptionWithin (register_access register result)
@@ -136,17 +136,17 @@ register-holds register result below low =
     (if-option (register == dira_register) (record { some = low })
     (if-option (nat_le ctra_register register && not (result == 0)) (record { some = below }) none-within))
 
-result-holds : (s : State) (result : ℕ) → result < 2 ^ 32 → OptionWithin (result_access (at_hand s) result)
+result-holds : (s : PasmState) (result : ℕ) → result < 2 ^ 32 → OptionWithin (result_access (at_hand s) result)
 result-holds s result low = if-option (writes_result (at_hand s)) (register-holds (at_hand s).dest result (destination-below s.long) low) none-within
 
-written-hold : (o : Option Access) (cog clock : ℕ) (next : State) → OptionWithin o → IsSound next → Holds (written_by o cog clock next)
+written-hold : (o : Option Access) (cog clock : ℕ) (next : PasmState) → OptionWithin o → IsSound next → Holds (written_by o cog clock next)
 written-hold None cog clock next h sound = done next sound
 written-hold (Some access) cog clock next h sound = ask-hold cog clock access (λ turn. Go next) h.some (λ turn is. done next sound)
 
-write-hold : (cog : ℕ) (s : State) (x : Effect) (clock : ℕ) (next : State) → x.result < 2 ^ 32 → IsSound next → Holds (write cog s x clock next)
+write-hold : (cog : ℕ) (s : PasmState) (x : Effect) (clock : ℕ) (next : PasmState) → x.result < 2 ^ 32 → IsSound next → Holds (write cog s x clock next)
 write-hold cog s x clock next low sound = written-hold (result_access (at_hand s) x.result) cog clock next (result-holds s x.result low) sound
 
-ends-hold : (cog : ℕ) (s : State) (x : Effect) (clock : ℕ) → IsSound s → x.result < 2 ^ 32 → Holds (ends_after cog s x clock)
+ends-hold : (cog : ℕ) (s : PasmState) (x : Effect) (clock : ℕ) → IsSound s → x.result < 2 ^ 32 → Holds (ends_after cog s x clock)
 ends-hold cog s x clock sound low =
     write-hold cog s x clock (fetched_before s x (next_of s) (clock + 1)) low (before-sound s x (next_of s) (clock + 1) sound low)
 
@@ -215,7 +215,7 @@ answered-word kept (Value value) h is = is
 answered-word kept (Number (Some n)) h is = omega (arith, is)
 answered-word kept (Number None) h is = omega arith
 
-uses_hub-hold : (cog : ℕ) (s : State) (source : ℕ) → IsSound s → Holds (use_hub cog s source)
+uses_hub-hold : (cog : ℕ) (s : PasmState) (source : ℕ) → IsSound s → Holds (use_hub cog s source)
 uses_hub-hold cog s source sound =
     let r = hub_request (at_hand s) (destination_value s) source in
     let holds = hub-holds (at_hand s) (destination_value s) source (destination-word s sound) in
@@ -238,7 +238,7 @@ if-effect false x y h k = k
 wait_effect-word : (opcode value source : ℕ) → value < 2 ^ 32 → (wait_effect opcode value source).result < 2 ^ 32
 wait_effect-word opcode value source h = if-effect (opcode == waitcnt) _ _ (mod-word (value + source)) h
 
-wait-hold : (cog : ℕ) (s : State) (source : ℕ) → IsSound s → source < 2 ^ 32 → Holds (wait cog s source)
+wait-hold : (cog : ℕ) (s : PasmState) (source : ℕ) → IsSound s → source < 2 ^ 32 → Holds (wait cog s source)
 wait-hold cog s source sound low =
     let value = destination-word s sound in
     ask-hold cog (s.clock + 4) (Wait (test_of (at_hand s).opcode (destination_value s) source))
@@ -247,23 +247,23 @@ wait-hold cog s source sound low =
     (λ turn is. ends-hold cog s (wait_effect (at_hand s).opcode (destination_value s) source) (turn.key.clock + 1) sound
     (wait_effect-word (at_hand s).opcode (destination_value s) source value))
 
-if-sound : (b : Bool) (s t : State) → IsSound s → IsSound t → IsSound (if b then s else t)
+if-sound : (b : Bool) (s t : PasmState) → IsSound s → IsSound t → IsSound (if b then s else t)
 if-sound true s t h k = h
 if-sound false s t h k = k
 
-computed-sound : (s : State) (source : ℕ) → IsSound s → (effect s source).result < 2 ^ 32 → IsSound (computed s source)
+computed-sound : (s : PasmState) (source : ℕ) → IsSound s → (effect s source).result < 2 ^ 32 → IsSound (computed s source)
 computed-sound s source sound low =
     if-sound (nat_le djnz (at_hand s).opcode) (tested_jump s source) _
     (if-sound (jumps (at_hand s).opcode (effect s source).result) _ _ (before-sound s (effect s source) (source % 512) (s.clock + 4) sound low)
     (after-sound s (effect s source) (next_of s) (s.clock + 8) sound low))
     (before-sound s (effect s source) (plain_next s source) (s.clock + 4) sound low)
 
-compute-hold : (cog : ℕ) (s : State) (source : ℕ) → IsSound s → source < 2 ^ 32 → Holds (compute cog s source)
+compute-hold : (cog : ℕ) (s : PasmState) (source : ℕ) → IsSound s → source < 2 ^ 32 → Holds (compute cog s source)
 compute-hold cog s source sound low =
     let result = effect-word (at_hand s).opcode (destination_value s) source s.c s.z (next_of s) (destination-word s sound) low in
     write-hold cog s (effect s source) (s.clock + 3) (computed s source) result (computed-sound s source sound result)
 
-does-hold : (kind : Kind) (cog : ℕ) (s : State) → IsSound s → Holds (does kind cog s)
+does-hold : (kind : InstructionKind) (cog : ℕ) (s : PasmState) → IsSound s → Holds (does kind cog s)
 does-hold Skipped cog s sound = done (passed s) (passed-sound s sound)
 does-hold Halting cog s sound = halts-hold s.clock (Opcode s.long) sound.long_word
 does-hold OfHub cog s sound =

@@ -13,7 +13,7 @@ use Rattle.p8_access.specs.Lives.{is_last}
 use Rattle.p8_access.specs.Courses.{Course, Finish, Stop, Ask}
 use Rattle.p8_access.specs.Timing.{Outcome, Asks, Goes, Ends, behind, played}
 use Rattle.p8_access.specs.Replays.{Engine, step, after, replayed}
-use Rattle.p8_bcog.specs.declared.state.State.{State}
+use Rattle.p8_bcog.specs.declared.state.SpinState.{SpinState}
 use Rattle.p8_bcog.specs.declared.calls.Call.{Call}
 use Rattle.p8_bcog.specs.Operands.{operand, operands, taken, pushed, left_by, replaced, jumped, jumped_if, stopped_by, tested}
 use Rattle.p8_bcog.specs.Accesses.{word_in}
@@ -31,7 +31,7 @@ pub record Sound (at pbase vbase : ℕ) (stack : List ℕ) (calls : List Call) :
   pub words : All IsWord stack
   pub callers : AreSound calls
 
-abbrev pub IsSound : State → Type 0
+abbrev pub IsSound : SpinState → Type 0
 IsSound s = Sound s.at s.pbase s.vbase s.stack s.calls
 
 abbrev pub IsLeft : Option ℕ → Type 0
@@ -40,10 +40,10 @@ IsLeft (Some value) = value < 2 ^ 32
 
 -- ---- operands
 
-pub operand-word : (s : State) (below : ℕ) → IsSound s → operand s below < 2 ^ 32
+pub operand-word : (s : SpinState) (below : ℕ) → IsSound s → operand s below < 2 ^ 32
 operand-word s below h = index-word s.stack (length s.stack - 1 - below) h.words
 
-pub pushed-sound : (value : ℕ) (s : State) → value < 2 ^ 32 → IsSound s → IsSound (pushed value s)
+pub pushed-sound : (value : ℕ) (s : SpinState) → value < 2 ^ 32 → IsSound s → IsSound (pushed value s)
 pushed-sound value s low h = record {
   at_below = h.at_below;
   pbase_below = h.pbase_below;
@@ -52,7 +52,7 @@ pushed-sound value s low h = record {
   callers = h.callers;
 }
 
-pub taken-sound : (count : ℕ) (s : State) → IsSound s → IsSound (taken count s)
+pub taken-sound : (count : ℕ) (s : SpinState) → IsSound s → IsSound (taken count s)
 taken-sound count s h = record {
   at_below = h.at_below;
   pbase_below = h.pbase_below;
@@ -61,49 +61,49 @@ taken-sound count s h = record {
   callers = h.callers;
 }
 
-pub at-sound : (at : ℕ) (s : State) → at < 65536 → IsSound s → IsSound (record s { at = at })
+pub at-sound : (at : ℕ) (s : SpinState) → at < 65536 → IsSound s → IsSound (record s { at = at })
 at-sound at s low h = record { at_below = low; pbase_below = h.pbase_below; vbase_below = h.vbase_below; words = h.words; callers = h.callers }
 
-pub left-sound : (left : Option ℕ) (s : State) → IsLeft left → IsSound s → IsSound (left_by left s)
+pub left-sound : (left : Option ℕ) (s : SpinState) → IsLeft left → IsSound s → IsSound (left_by left s)
 left-sound None s low h = h
 left-sound (Some value) s low h = pushed-sound value s low h
 
-pub replaced-sound : (count value : ℕ) (s : State) → value < 2 ^ 32 → IsSound s → IsSound (replaced count value s)
+pub replaced-sound : (count value : ℕ) (s : SpinState) → value < 2 ^ 32 → IsSound s → IsSound (replaced count value s)
 replaced-sound count value s low h = pushed-sound value (taken count s) low (taken-sound count s h)
 
-pub jumped-sound : (offset : ℕ) (s : State) → IsSound s → IsSound (jumped offset s)
+pub jumped-sound : (offset : ℕ) (s : SpinState) → IsSound s → IsSound (jumped offset s)
 jumped-sound offset s h = at-sound ((s.at + offset) % 2 ^ 16) s (omega arith) h
 
-pub jumped_if-sound : (jumps : Bool) (offset : ℕ) (s : State) → IsSound s → IsSound (jumped_if jumps offset s)
+pub jumped_if-sound : (jumps : Bool) (offset : ℕ) (s : SpinState) → IsSound s → IsSound (jumped_if jumps offset s)
 jumped_if-sound true offset s h = jumped-sound offset s h
 jumped_if-sound false offset s h = h
 
-pub if-sound : (b : Bool) (s t : State) → IsSound s → IsSound t → IsSound (if b then s else t)
+pub if-sound : (b : Bool) (s t : SpinState) → IsSound s → IsSound t → IsSound (if b then s else t)
 if-sound true s t h k = h
 if-sound false s t h k = k
 
 -- ---- courses
 
 -- each access that a course may ask, and what it leaves, whatever is answered
-abbrev pub AllHold : Course State → Type 0
+abbrev pub AllHold : Course SpinState → Type 0
 AllHold (Finish s) = IsSound s
 AllHold (Stop reason) = IsReasonWithin reason
 AllHold (Ask access go) = IsAccessWithin access × ((answer : Answer) → IsAnswerWithin answer → AllHold (go answer))
 
-pub record Holds (course : Course State) : Type 0 where
+pub record Holds (course : Course SpinState) : Type 0 where
   pub all : AllHold course
 
-pub finishes : (s : State) → IsSound s → Holds (Finish s)
+pub finishes : (s : SpinState) → IsSound s → Holds (Finish s)
 finishes s h = record { all = h }
 
 pub stops : (reason : Reason) → IsReasonWithin reason → Holds (Stop reason)
 stops reason h = record { all = h }
 
-pub asks : (access : Access) (go : Answer → Course State) → IsAccessWithin access → ((answer : Answer) → IsAnswerWithin answer → Holds (go answer)) →
+pub asks : (access : Access) (go : Answer → Course SpinState) → IsAccessWithin access → ((answer : Answer) → IsAnswerWithin answer → Holds (go answer)) →
     Holds (Ask access go)
 asks access go h k = record { all = (h, λ answer within. (k answer within).all) }
 
-pub either : (b : Bool) {x y : Course State} → Holds x → Holds y → Holds (if b then x else y)
+pub either : (b : Bool) {x y : Course SpinState} → Holds x → Holds y → Holds (if b then x else y)
 either true h k = h
 either false h k = k
 
@@ -115,31 +115,31 @@ word-in (Number (Some n)) h = omega (arith, h)
 word-in (Was true) h = omega arith
 word-in (Was false) h = omega arith
 
-refused : (under full : Bool) {course : Course State} → Holds course →
+refused : (under full : Bool) {course : Course SpinState} → Holds course →
     Holds (stopped_by (if under then Some Why.Under else if full then Some Why.Stack else None) course)
 refused true full h = stops Why.Under tt
 refused false true h = stops Why.Stack tt
 refused false false h = h
 
-pub tests : (takes leaves : ℕ) (s : State) {course : Course State} → Holds course → Holds (tested takes leaves s course)
+pub tests : (takes leaves : ℕ) (s : SpinState) {course : Course SpinState} → Holds course → Holds (tested takes leaves s course)
 tests takes leaves s h = refused (nat_lt (operands s) takes) (nat_lt 16384 (length s.stack - takes + leaves)) h
 
 -- the last test of a row, and what it does where that is passed
-pub finishes-if : (takes leaves : ℕ) (s next : State) → IsSound next → Holds (tested takes leaves s (Finish next))
+pub finishes-if : (takes leaves : ℕ) (s next : SpinState) → IsSound next → Holds (tested takes leaves s (Finish next))
 finishes-if takes leaves s next h = tests takes leaves s (finishes next h)
 
 -- ---- a life
 
-abbrev pub AskedHold : Outcome State → Type 0
+abbrev pub AskedHold : Outcome SpinState → Type 0
 AskedHold (Asks clock access) = IsAccessWithin access
 AskedHold (Goes s clock left) = IsSound s × AreAnswered left
 AskedHold Ends = Unit {0}
 
-if-asked : (b : Bool) (o : Outcome State) → AskedHold o → AskedHold (if b then Ends else o)
+if-asked : (b : Bool) (o : Outcome SpinState) → AskedHold o → AskedHold (if b then Ends else o)
 if-asked true o h = tt
 if-asked false o h = h
 
-played-hold : (cog p : ℕ) (course : Course State) → AllHold course → (turns : List Turn) → AreAnswered turns → AskedHold (played cog p course turns)
+played-hold : (cog p : ℕ) (course : Course SpinState) → AllHold course → (turns : List Turn) → AreAnswered turns → AskedHold (played cog p course turns)
 played-hold cog p (Finish s) h turns are = (h, are)
 played-hold cog p (Stop reason) h [] are = h
 played-hold cog p (Stop reason) h (turn ∷ left) are = tt
@@ -147,18 +147,18 @@ played-hold cog p (Ask access go) h [] are = h.0
 played-hold cog p (Ask access go) h (turn ∷ left) are =
     if-asked (is_last cog access) _ (played-hold cog (behind p access turn.key.clock) (go turn.answer) (h.1 turn.answer are.0) left are.1)
 
-step-hold : (e : Engine State) → ((s : State) → IsSound s → Holds (e.next s)) → (o : Outcome State) → AskedHold o → AskedHold (step e o)
+step-hold : (e : Engine SpinState) → ((s : SpinState) → IsSound s → Holds (e.next s)) → (o : Outcome SpinState) → AskedHold o → AskedHold (step e o)
 step-hold e each (Asks clock access) h = h
 step-hold e each (Goes s clock left) h = played-hold e.cog (clock + e.cost s) (e.next s) (each s h.0).all left h.1
 step-hold e each Ends h = tt
 
-after-hold : (e : Engine State) → ((s : State) → IsSound s → Holds (e.next s)) → (n : ℕ) (o : Outcome State) → AskedHold o → AskedHold (after e n o)
+after-hold : (e : Engine SpinState) → ((s : SpinState) → IsSound s → Holds (e.next s)) → (n : ℕ) (o : Outcome SpinState) → AskedHold o → AskedHold (after e n o)
 unfolding after
 after-hold e each zero o h = h
 after-hold e each (suc n) o h = step-hold e each (after e n o) (after-hold e each n o h)
 
 -- whatever is asked
-pub course-holds : (e : Engine State) → ((s : State) → IsSound s → Holds (e.next s)) → (start : ℕ) (first : Course State) → Holds first →
+pub course-holds : (e : Engine SpinState) → ((s : SpinState) → IsSound s → Holds (e.next s)) → (start : ℕ) (first : Course SpinState) → Holds first →
     (count : ℕ) (turns : List Turn) → AreAnswered turns → (clock : ℕ) (access : Access) → replayed e start first count turns ≡ Asks clock access
     → IsAccessWithin access
 course-holds e each start first h count turns are clock access same =

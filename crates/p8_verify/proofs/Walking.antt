@@ -5,7 +5,7 @@ use Rattle.p8_access.specs.declared.order.Turn.{Turn}
 use Rattle.p8_access.specs.Worlds.{World, Line}
 use Rattle.p8_access.specs.Histories.{Extends, IsOver}
 use Rattle.p8_cog.specs.Lives.{asks}
-use Rattle.p8_verify.specs.declared.head.Head.{Head}
+use Rattle.p8_verify.specs.declared.head.HistoryHead.{HistoryHead}
 use Rattle.p8_verify.specs.declared.verdicts.Cause.{Cause}
 use Rattle.p8_verify.specs.declared.verdicts.Cause.TheVariants.{Extra, Form, More}
 use Rattle.p8_verify.specs.declared.verdicts.Verdict.{Verdict}
@@ -67,7 +67,7 @@ module _ (w : World) (past : List Turn) where
     unended more = inr ([], no-records 0 0 [] refl refl, (ap (λ (n : ℕ). n + 1) (sym done), refl, more))
 
 -- the verdict on a file by that on its records
-pub of-head : (boot : Boot) (script : List Line) (bytes rest : List ℕ) (head : Head) → IsHead bytes head rest → (v : Verdict) → IsTold (world_by boot script head) [] head.count 1 rest v → IsVerdict boot script bytes v
+pub of-head : (boot : Boot) (script : List Line) (bytes rest : List ℕ) (head : HistoryHead) → IsHead bytes head rest → (v : Verdict) → IsTold (world_by boot script head) [] head.count 1 rest v → IsVerdict boot script bytes v
 of-head boot script bytes rest head is (Good n) told = (head, told.0, (rest, is, told.1), told.2)
 of-head boot script bytes rest head is (Bad n cause) told = elim told [
   | inl form ↦ inl (form.0, inr (head, rest, is, form.1))

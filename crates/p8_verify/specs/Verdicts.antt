@@ -7,7 +7,7 @@ use Rattle.p8_access.specs.Histories.{Extends, IsOver, Ended}
 use Rattle.p8_cog.specs.Lives.{asks}
 use Rattle.p8_ledger.specs.declared.outcome.Limits.{Limits}
 use Rattle.p8_ledger.specs.Worlds.{world_of}
-use Rattle.p8_verify.specs.declared.head.Head.{Head}
+use Rattle.p8_verify.specs.declared.head.HistoryHead.{HistoryHead}
 use Rattle.p8_verify.specs.declared.verdicts.Cause.{Cause}
 use Rattle.p8_verify.specs.declared.verdicts.Cause.TheVariants.{Form, Extra, Key, Access, Answer, More}
 use Rattle.p8_verify.specs.declared.verdicts.Verdict.{Verdict}
@@ -40,13 +40,13 @@ module _ (w : World) where
       ⊎ (Extends asks w past turn × Judged (turn ∷ past) left (Bad n cause))
 
 -- the world of a boot and a script within the limits of a head
-abbrev pub world_by : Boot → List Line → Head → World
+abbrev pub world_by : Boot → List Line → HistoryHead → World
 world_by boot script head = world_of boot script (record { clocks = head.clocks; turns = head.turns })
 
 -- a file that is formed is judged by its turns
 abbrev pub IsJudged : Boot → List Line → List ℕ → Verdict → Type 0
 IsJudged boot script bytes verdict =
-    (head : Head) × (turns : List Turn) × IsFormed bytes head turns × Judged (world_by boot script head) [] turns verdict
+    (head : HistoryHead) × (turns : List Turn) × IsFormed bytes head turns × Judged (world_by boot script head) [] turns verdict
 
 -- the verdict on a file: its form is looked at as a whole before its first turn is
 abbrev pub IsVerdict : Boot → List Line → List ℕ → Verdict → Type 0

@@ -11,7 +11,7 @@ ghost use Rattle.p8_verify.specs.Fitting.{Fits};
 ghost use Rattle.p8_verify.specs.Files.{records, file_of, IsFile};
 
 use crate::halt_laws::halts_name_registers;
-use crate::head::{HEAD, Head};
+use crate::head::{HEAD, HistoryHead};
 use crate::records::{RECORD, turn_bytes};
 use p8_access::Turn;
 use p8_ledger::History;
@@ -50,7 +50,7 @@ fn head_and_records(alloc: Global, history: &History) -> Result<Vec<u8>, NoMemor
     ensures within { OnOk result (All Fits history.now.turns.list) }
 {
     let turns = history.turns.as_slice();
-    let head = Head {
+    let head = HistoryHead {
         clocks: history.limits.clocks as u32,
         turns: history.limits.turns as u32,
         count: turns.len() as u32,

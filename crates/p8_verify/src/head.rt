@@ -17,7 +17,7 @@ const MOST_TURNS: u32 = 40_000;
 
 /// What a history file says of its history before its turns.
 #[derive(Clone, Copy)]
-pub struct Head {
+pub struct HistoryHead {
     /// The limit of the clocks.
     pub clocks: u32,
     /// The limit of the number of turns.
@@ -26,7 +26,7 @@ pub struct Head {
     pub count: u32,
 }
 
-impl Head {
+impl HistoryHead {
     /// The limits of the history.
     pub fn limits(self) -> Limits
         ensures { result ≡ record { clocks = self.clocks; turns = self.turns } }
@@ -63,14 +63,14 @@ impl Head {
     }
 
     /// The head with which these bytes begin; `None` exactly where they begin with none.
-    pub fn read(bytes: &[u8]) -> Option<Head>
+    pub fn read(bytes: &[u8]) -> Option<HistoryHead>
         ensures head { MatchOption result (NoHead bytes.now) (λ head. IsHead bytes.now head (drop 16 bytes.now)) }
         ensures length { IfSome result (λ _. 16 ≤ length bytes.now) }
     {
         if bytes.len() < HEAD {
             return None;
         }
-        let head = Head {
+        let head = HistoryHead {
             clocks: LittleEndian::read_u32(&bytes[4..]),
             turns: LittleEndian::read_u32(&bytes[8..]),
             count: LittleEndian::read_u32(&bytes[12..]),

@@ -11,7 +11,7 @@ ghost use Rattle.p8_verify.specs.Files.{AreRecords, BreaksAt};
 ghost use Rattle.p8_verify.specs.Verdicts.{Differs, IsVerdict};
 ghost use Rattle.p8_verify.specs.Told.{IsNext, IsTold};
 
-use crate::head::{Head, after_head};
+use crate::head::{HistoryHead, after_head};
 use crate::records::{after_record, begins_with, read_turn, turn_of_record};
 use p8_access::{Boot, Turn};
 use p8_machine::Machine;
@@ -175,7 +175,7 @@ pub fn verdict_on(
     requires { IsProperOrigin boot.first }
     ensures { IfOk result (IsVerdict boot script bytes.now) }
 {
-    let Some(head) = Head::read(bytes) else {
+    let Some(head) = HistoryHead::read(bytes) else {
         return Ok(Verdict::Bad {
             turn: 0,
             cause: Cause::Form,

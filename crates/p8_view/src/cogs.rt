@@ -136,7 +136,7 @@ impl Cogs {
     }
 
     /// Takes note of a turn.
-    pub fn note(&mut self, turn: &Turn)
+    pub fn record_turn(&mut self, turn: &Turn)
         requires { turn.now.key.cog < 8 }
         ensures { (w : World) (past : List Turn) → AreCogs w past self.old → AreCogs w (turn.now ∷ past) self.new }
     {

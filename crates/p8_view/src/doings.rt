@@ -86,7 +86,7 @@ impl Doings {
     }
 
     /// Takes note of a turn, which its cog asked by this.
-    pub fn note(&mut self, turn: &Turn, asking: Asking)
+    pub fn record_turn(&mut self, turn: &Turn, asking: Asking)
         requires { turn.now.key.cog < 8 }
         ensures { (w : World) (counters : List (Option ℕ)) (past : List Turn) → asking.own ≡ origin_of (cog_state w past turn.now.key.cog) →
             asking.counter ≡ counter_of counters (length past) → AreDoings w counters past self.old → AreDoings w counters (turn.now ∷ past) self.new }
@@ -167,8 +167,8 @@ impl After {
                 own: cogs.origin(turn.key.cog),
                 counter: counter_of(counters, number),
             };
-            doings.note(turn, asking);
-            cogs.note(turn);
+            doings.record_turn(turn, asking);
+            cogs.record_turn(turn);
         }
         After { doings, cogs }
     }

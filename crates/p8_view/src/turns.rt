@@ -153,7 +153,7 @@ impl<'a> Showing<'a> {
         let own = cogs.origin(turn.key.cog);
         let left = cogs.left(turn.key.cog);
         let before = cogs.drives();
-        cogs.note(turn);
+        cogs.record_turn(turn);
         let after = cogs.drives();
         if !self.shows(left, &before, &after, turn) {
             return Ok(());

@@ -13,8 +13,8 @@ use Rattle.p8_wave.specs.declared.axes.Axis.TheVariants.{Clocks, Times}
 use Rattle.p8_wave.specs.declared.axes.TimeUnit.{TimeUnit}
 use Rattle.p8_wave.specs.declared.axes.TimeUnit.TheVariants.{Microseconds, Milliseconds}
 use Rattle.p8_wave.specs.declared.grid.Column.{Column}
-use Rattle.p8_wave.specs.declared.mark.Mark.{Mark}
-use Rattle.p8_wave.specs.declared.mark.Mark.TheVariants.{Low, High, Changing}
+use Rattle.p8_wave.specs.declared.pin_level.PinLevel.{PinLevel}
+use Rattle.p8_wave.specs.declared.pin_level.PinLevel.TheVariants.{Low, High, Changing}
 use Rattle.p8_wave.specs.Axes.{apart, axis_by, axis_label, axis_line, every, text_at, tick_line, unit_for, AreApart}
 use Rattle.p8_wave.specs.Plot.{width_of, column_at, columns_of, mark_of, text_of_mark, label_of, pin_line}
 use Rattle.p8_wave.proofs.Columns.{begins-inside}
@@ -232,7 +232,7 @@ ticks-fit most from end some =
     let few : length ticks ≤ div_ceil most 10 - 1 + 1 = omega (arith, some, every-few false most from end some) in
     omega (arith, length-append (apart 10 4 (map f ticks)) (codes "\n"), texts-fit 10 4 1 (div_ceil most 10 - 1) f ticks (omega arith) (ticks-short ticks) few, some)
 
-mark-one : (mark : Mark) → length (text_of_mark true mark) ≡ 1
+mark-one : (mark : PinLevel) → length (text_of_mark true mark) ≡ 1
 mark-one Low = refl
 mark-one High = refl
 mark-one Changing = refl

@@ -6,7 +6,7 @@ use Rattle.p8_pins.specs.declared.change.Change.{Change}
 use Rattle.p8_pins.specs.Levels.{is_high}
 use Rattle.p8_pins.specs.LevelChanges.{lines_of, Ahead, RiseFrom}
 use Rattle.p8_wave.specs.declared.grid.Column.{Column}
-use Rattle.p8_wave.specs.declared.mark.Mark.{Mark}
+use Rattle.p8_wave.specs.declared.pin_level.PinLevel.{PinLevel}
 use Rattle.p8_wave.specs.Plot.{mark_of, text_of_mark}
 use Rattle.p8_wave.specs.Tracing.{Follow, IsFrom, IsBefore}
 
@@ -24,7 +24,7 @@ module _ (whole : ℕ → Bool) (pin : ℕ) (columns : List Column) (i : ℕ) (d
   next-follow : Follow before.from (get_or columns i d ∷ drop (i + 1) columns)
   next-follow = subst (Follow before.from) (drop_more columns i d inside) before.follow
 
-  pub marked : (mark : Mark) → ((w : ℕ → Bool) (from : ℕ) → from ≤ (get_or columns i d).first → IsFrom w pin from old → mark ≡ mark_of w (get_or columns i d)) → mark ≡ mark_of whole (get_or columns i d)
+  pub marked : (mark : PinLevel) → ((w : ℕ → Bool) (from : ℕ) → from ≤ (get_or columns i d).first → IsFrom w pin from old → mark ≡ mark_of w (get_or columns i d)) → mark ≡ mark_of whole (get_or columns i d)
   marked mark shows = shows whole before.from next-follow.0 before.at
 
   pub goes-past : (new : Ahead) → ((w : ℕ → Bool) (from : ℕ) → from ≤ (get_or columns i d).first → IsFrom w pin from old → IsFrom w pin (get_or columns i d).end new) → IsBefore whole pin new (drop (i + 1) columns)
@@ -34,7 +34,7 @@ module _ (whole : ℕ → Bool) (pin : ℕ) (columns : List Column) (i : ℕ) (d
     follow = next-follow.2;
   }
 
-  pub one-mark : (ascii : Bool) (mark : Mark) (out more text all : List ℕ)
+  pub one-mark : (ascii : Bool) (mark : PinLevel) (out more text all : List ℕ)
       → ((w : ℕ → Bool) (from : ℕ) → from ≤ (get_or columns i d).first → IsFrom w pin from old → mark ≡ mark_of w (get_or columns i d))
       → out ++ flat_map (λ (column : Column). text_of_mark ascii (mark_of whole column)) (drop i columns) ≡ all
       → more ≡ out ++ text → text ≡ text_of_mark ascii mark

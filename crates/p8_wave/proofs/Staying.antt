@@ -9,7 +9,7 @@ use Rattle.p8_pins.specs.Levels.{is_high}
 use Rattle.p8_pins.specs.LevelChanges.{line_of, lines_of, Ahead, RiseFrom, IsLater, HasPassed}
 use Rattle.p8_pins.proofs.Passing.{passes, waits, stays as settled, rise-later, passed-agrees, passed-rise}
 use Rattle.p8_wave.specs.declared.grid.Column.{Column}
-use Rattle.p8_wave.specs.declared.mark.Mark.TheVariants.{Low, High, Changing}
+use Rattle.p8_wave.specs.declared.pin_level.PinLevel.TheVariants.{Low, High, Changing}
 use Rattle.p8_wave.specs.Plot.{clocks_of, mark_of}
 use Rattle.p8_wave.specs.Tracing.{same, stays, IsFrom}
 

@@ -8,8 +8,8 @@ use Rattle.p8_access.specs.declared.order.Turn.{Turn}
 use Rattle.p8_access.specs.Worlds.{World}
 use Rattle.p8_pins.specs.Levels.{is_high, high_at, end_of}
 use Rattle.p8_wave.specs.declared.grid.Column.{Column}
-use Rattle.p8_wave.specs.declared.mark.Mark.{Mark}
-use Rattle.p8_wave.specs.declared.mark.Mark.TheVariants.{Low, High, Changing}
+use Rattle.p8_wave.specs.declared.pin_level.PinLevel.{PinLevel}
+use Rattle.p8_wave.specs.declared.pin_level.PinLevel.TheVariants.{Low, High, Changing}
 use Rattle.p8_wave.specs.declared.view.View.{View}
 use Rattle.p8_wave.specs.Axes.{scale_of}
 use Rattle.p8_wave.specs.Ending.{end_text}
@@ -37,13 +37,13 @@ abbrev pub clocks_of : Column → List ℕ
 clocks_of column = range_with_len column.first (column.end - column.first)
 
 -- what a pin that is high at these clocks shows in a column
-abbrev pub mark_of : (high : ℕ → Bool) → Column → Mark
+abbrev pub mark_of : (high : ℕ → Bool) → Column → PinLevel
 mark_of high column =
     if list_all high (clocks_of column) then High
     else if list_all (λ t. not (high t)) (clocks_of column) then Low else Changing
 
 -- a mark in print: in ASCII, or as the UTF-8 bytes of U+2581, U+2594 and U+2573
-abbrev pub text_of_mark : (ascii : Bool) → Mark → List ℕ
+abbrev pub text_of_mark : (ascii : Bool) → PinLevel → List ℕ
 text_of_mark true Low = codes "_"
 text_of_mark true High = codes "-"
 text_of_mark true Changing = codes "X"

@@ -40,7 +40,7 @@ pub fn take_turns<'a>(signals: &mut Signals, turns: &'a [Turn], clock: u64) -> &
         if turn.key.clock > clock {
             return left;
         }
-        signals.note(turn);
+        signals.record_turn(turn);
         left = after_first(left);
     }
     left

@@ -3,7 +3,7 @@ ghost use Rattle.std.specs.Prelude.{◌≡◌, ◌++◌, length, reverse, OnOk};
 ghost use Rattle.std.specs.Fmt.{decimal};
 ghost use Rattle.p8_wave.specs.Ending.{ended_text, last_clock as clock_of_last, made_text, why_text};
 
-use crate::texts::push_decimal;
+use crate::appending::push_decimal;
 use p8_access::Turn;
 use p8_instr::push_text;
 use p8_words::NoMemory;

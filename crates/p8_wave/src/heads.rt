@@ -4,10 +4,10 @@ ghost use Rattle.p8_wave.specs.Variables.{scopes};
 ghost use Rattle.p8_wave.specs.Wave.{scope_with};
 ghost use Rattle.p8_wave.specs.Sections.{scope_of, head_of, first_of};
 
+use crate::appending::{push_declarations, push_scope_head, push_values};
 use crate::entries::Entry;
 use crate::scale::Scale;
 use crate::snapshot::Snapshot;
-use crate::texts::{push_declarations, push_scope_head, push_values};
 use crate::variables::Scope;
 use p8_instr::push_text;
 use p8_words::NoMemory;

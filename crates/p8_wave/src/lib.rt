@@ -5,22 +5,22 @@
 //! changes, and the text. A picture is the levels of pins as text for a terminal.
 #![tactic(auto)]
 
+mod appending;
 mod axes;
 mod courses;
 mod ending;
 mod entries;
 mod grid;
 mod heads;
-mod mark;
 mod parts;
 mod picture;
+mod pin_level;
 mod plot_laws;
 mod plot_scale;
 mod scale;
 mod sections;
 mod signals;
 mod snapshot;
-mod texts;
 mod trace;
 mod variables;
 mod view;

@@ -7,9 +7,9 @@ ghost use Rattle.p8_wave.specs.Variables.{variables, cog_variables, lock_variabl
 ghost use Rattle.p8_wave.specs.Sections.{still, marked, some_differ, change_text};
 ghost use Rattle.p8_wave.specs.Parts.{AreInside, together};
 
+use crate::appending::push_changes;
 use crate::entries::{Entry, mark_entries, push_cog, push_locks, push_pins};
 use crate::snapshot::Snapshot;
-use crate::texts::push_changes;
 use crate::variables::Scope;
 use p8_words::NoMemory;
 use std::alloc::Global;

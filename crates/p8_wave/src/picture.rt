@@ -8,11 +8,11 @@ ghost use Rattle.p8_pins.specs.LevelChanges.{lines_of, RiseFrom};
 ghost use Rattle.p8_wave.specs.Plot.{label_of, mark_of, text_of_mark, picture_of, plot_of};
 ghost use Rattle.p8_wave.specs.Tracing.{Follow, line_of_pin};
 
+use crate::appending::push_decimal;
 use crate::ending::push_end;
 use crate::grid::{Column, columns};
 use crate::plot_scale::push_scale;
 use crate::scale::rate_of;
-use crate::texts::push_decimal;
 use crate::trace::{Trace, is_set};
 use crate::view::View;
 use p8_access::{Boot, Turn};

@@ -3,9 +3,9 @@ ghost use Rattle.std.specs.Prelude.{◌≡◌, ◌<◌, ◌++◌, nat_lt, length
 ghost use Rattle.std.specs.List.{list_any};
 ghost use Rattle.p8_wave.specs.Axes.{axis_by, axis_line, scale_of, step_of, text_at, tick_line, time_line, IsTold};
 
+use crate::appending::push_spaces;
 use crate::axes::{Axis, TimeUnit};
 use crate::grid::Column;
-use crate::texts::push_spaces;
 use p8_instr::push_text;
 use p8_words::NoMemory;
 

@@ -4,7 +4,7 @@ ghost use Rattle.p8_access.specs.Worlds.{World};
 ghost use Rattle.p8_wave.specs.Scale.{frequency, rate, period_of as period_in, power_of, ticks_of, ticks_in, count_text, second_text, unit_text};
 ghost use Rattle.p8_wave.specs.Scale.{exact_text, tick_text, scale_text};
 
-use crate::texts::push_numbered;
+use crate::appending::push_numbered;
 use byteorder::{ByteOrder, LittleEndian};
 use p8_access::{Boot, Origin};
 use p8_instr::push_text;

@@ -81,7 +81,7 @@ impl Signals {
     }
 
     /// Takes note of a turn.
-    pub fn note(&mut self, turn: &Turn)
+    pub fn record_turn(&mut self, turn: &Turn)
         ensures { (w : World) (past : List Turn) → AreSignals w past self.old → AreSignals w (turn.now ∷ past) self.new }
     {
         let cog = turn.key.cog;

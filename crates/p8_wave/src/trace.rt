@@ -6,7 +6,7 @@ ghost use Rattle.p8_wave.specs.Plot.{mark_of};
 ghost use Rattle.p8_wave.specs.Tracing.{same, stays, IsFrom};
 
 use crate::grid::Column;
-use crate::mark::Mark;
+use crate::pin_level::PinLevel;
 use p8_pins::Change;
 use std::marker::Model;
 
@@ -79,7 +79,7 @@ impl<'a> Trace<'a> {
     }
 
     /// What the pin shows in a column, to whose last clock the trace goes.
-    pub fn mark(&mut self, pin: u8, column: &Column) -> Mark
+    pub fn mark(&mut self, pin: u8, column: &Column) -> PinLevel
         requires pin { pin < 32 }
         requires clocks { column.now.first < column.now.end }
         ensures mark { (whole : ℕ → Bool) (from : ℕ) → from ≤ column.now.first → IsFrom whole pin from self.old → result ≡ mark_of whole column.now }
@@ -88,8 +88,8 @@ impl<'a> Trace<'a> {
         self.pass(pin, column.first);
         let high = self.is_high(pin);
         if !self.pass(pin, column.end - 1) {
-            return Mark::Changing;
+            return PinLevel::Changing;
         }
-        if high { Mark::High } else { Mark::Low }
+        if high { PinLevel::High } else { PinLevel::Low }
     }
 }

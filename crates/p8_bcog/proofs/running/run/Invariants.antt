@@ -1,5 +1,5 @@
 use Rattle.std.proofs.Common.{◌≡◌, ◌+◌, ◌*◌, ◌^◌, ◌<◌, ◌≤◌}
-use Rattle.p8_bcog.specs.declared.stage.Stage.TheVariants.{Ready}
+use Rattle.p8_bcog.specs.declared.stage.SpinStage.TheVariants.{Ready}
 use Rattle.p8_bcog.specs.Stops.{Led}
 use Rattle.p8_bcog.proofs.running.run.Given as goal
 

@@ -1,6 +1,6 @@
 use Rattle.std.proofs.Common.{map}
 use Rattle.p8_tree.specs.Views.{constant_of}
-use Rattle.p8_lines.specs.declared.state.State.TheVariants as state_case
+use Rattle.p8_lines.specs.declared.state.LineState.TheVariants as state_case
 use Rattle.p8_declarations.specs.Constants.{constants_of_row}
 use Rattle.p8_blocks.proofs.Reading.{value_read, there}
 use Rattle.p8_blocks.proofs.Constants.{from_head, from_item}

@@ -1,4 +1,4 @@
-use Rattle.p8_lines.specs.declared.state.State.TheVariants as state_case
+use Rattle.p8_lines.specs.declared.state.LineState.TheVariants as state_case
 use Rattle.p8_declarations.specs.Lines.{line_of_row}
 use Rattle.p8_blocks.proofs.Reading.{value_read, known}
 use Rattle.p8_blocks.proofs.ProperData.{head_has_value, line_has_value}

@@ -1,6 +1,6 @@
 use Rattle.std.proofs.Common.{map}
 use Rattle.p8_tree.specs.Views.{child_of}
-use Rattle.p8_lines.specs.declared.state.State.TheVariants as state_case
+use Rattle.p8_lines.specs.declared.state.LineState.TheVariants as state_case
 use Rattle.p8_declarations.specs.Objects.{objects_of_row}
 use Rattle.p8_blocks.proofs.Reading.{value_read, there}
 use Rattle.p8_blocks.proofs.Objects.{from_head, from_line}

@@ -15,8 +15,8 @@ loop-lines-preserved c =
     record {
       within = omega (arith, within, left);
       text = one-line (scope_in c.args.scope) (length code - length rest) c.loop-lines.place c.loop-lines.previous c.loop-lines.lines.now rest size
-          c.loop-lines.out.items c.push_heading.new.out.items c.push_op_line.new.out.items _ c.statement_line-line.result c.further-place.result
+          c.loop-lines.out.items c.push_heading.new.out.items c.push_op_line.new.out.items _ c.statement_line-line.result c.address_after-place.result
           (length code - length c.behind-rest.result.now) (length code + 1 - length rest) c.behind-lines.result.now c.behind-rest.result.now
           c.line_size-size.ensures.size (omega (arith, some, fits)) fits c.statement_line-line.ensures c.in_ok-push_heading.ensures (omega (arith, within)) c.in_ok-push_op_line.ensures
-          c.further-place.ensures (omega (arith, left, within, fits)) c.behind-lines.ensures c.behind-rest.ensures c.loop-lines.invariant.text;
+          c.address_after-place.ensures (omega (arith, left, within, fits)) c.behind-lines.ensures c.behind-rest.ensures c.loop-lines.invariant.text;
     }

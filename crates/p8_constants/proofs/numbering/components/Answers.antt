@@ -1,5 +1,5 @@
 use Rattle.std.proofs.Common.{◌≡◌, ◌≢◌, ◌↔◌, ℕ, ◌<◌, ◌≤◌, length, get_or, ap, sym, subst, arith}
-use Rattle.p8_constants.specs.declared.search.Mark.TheVariants.{New}
+use Rattle.p8_constants.specs.declared.search.NodeState.TheVariants.{New}
 use Rattle.p8_constants.specs.Graphs.{IsEdge, Reaches}
 use Rattle.p8_constants.specs.Searches.{mark, IsState}
 use Rattle.p8_constants.proofs.Numbers.{nothing_found, numbers_fall, numbers_same}

@@ -1,5 +1,5 @@
 use Rattle.std.proofs.Common.{◌≡◌, ◌≢◌, ℕ, ◌<◌, []}
-use Rattle.p8_constants.specs.declared.search.Mark.TheVariants.{New}
+use Rattle.p8_constants.specs.declared.search.NodeState.TheVariants.{New}
 use Rattle.p8_constants.specs.Searches.{mark, IsState}
 use Rattle.p8_constants.proofs.numbering.components.Given as goal
 

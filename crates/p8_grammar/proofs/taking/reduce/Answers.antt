@@ -3,4 +3,4 @@ use Rattle.p8_grammar.proofs.Steps.{reduce-pop}
 use Rattle.p8_grammar.proofs.taking.reduce.Goals as goal
 
 pub ends-preserved : goal.ends-preserved
-ends-preserved c = c.ends.invariant ∙ reduce-pop _ _ _ _ _ _ _ c.in-Some.ensures c.bar.ensures c.ends-test.true c.in_ok-tree-in-Some.ensures
+ends-preserved c = c.ends.invariant ∙ reduce-pop _ _ _ _ _ _ _ c.in-Some.ensures c.level_bound.ensures c.ends-test.true c.in_ok-tree-in-Some.ensures

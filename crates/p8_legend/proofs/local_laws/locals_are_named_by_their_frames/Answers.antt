@@ -7,7 +7,7 @@ use Rattle.p8_access.specs.Histories.{since_begin}
 use Rattle.p8_access.specs.Timing.{Asks, played}
 use Rattle.p8_bytecode.specs.declared.op.Op.{Op}
 use Rattle.p8_bytecode.specs.Reading.{op_at}
-use Rattle.p8_bcog.specs.declared.state.State.{State}
+use Rattle.p8_bcog.specs.declared.state.SpinState.{SpinState}
 use Rattle.p8_bcog.specs.Accesses.{aligned}
 use Rattle.p8_bcog.specs.Bytecodes.{bytecode, clocks, does_found}
 use Rattle.p8_bcog.specs.Code.{code_of, fetched}
@@ -58,7 +58,7 @@ returns c = λ sources files proper some distinct mentioned no_ring image is leg
     let hub : Lies (image_of is.0.clock own) = lies is.0.clock own (c.image_loads.ensures.image is.0.clock own main fits) (c.image_loads.ensures.header is.0.clock own main fits) fits in
     let file : image.file ≡ image_of is.0.clock own = is.0.is ∙ ap (image_of is.0.clock) b.objects_are in
     let code : code_of entered.memory ≡ image.file = ap code_of (begun-memory w past turn.key.cog entered begins ∙ memory) ∙ code-is image.file (subst Lies (sym file) hub) in
-    let s : State = asked.1 in
+    let s : SpinState = asked.1 in
     let at : op_at image.file address ≡ Some (has.op, has.after) = ap (op_at image.file) (sym named.begins) ∙ has.is_read in
     let fetches : fetched entered.memory s.at ≡ (if nat_lt address 16 then None else Some (has.op, has.after)) =
     ap (fetched entered.memory) asked.8 ∙ ap (λ (xs : List ℕ). if nat_lt address 16 then None else op_at xs address) code ∙ ap (λ (o : Option (Op × ℕ)). if nat_lt address 16 then None else o) at in
@@ -66,7 +66,7 @@ returns c = λ sources files proper some distinct mentioned no_ring image is leg
     let stays = found-stays entered.memory entered.cog has.op has.after has.offset s (nat_lt address 16) has.in_frame in
     let start : ℕ = asked.2 + clocks entered.memory s in
     let plays : played entered.cog start (does_found entered.memory entered.cog (if nat_lt address 16 then None else Some (has.op, has.after)) s) asked.3 ≡ Asks asked.4 asked.5 =
-    ap (λ (d : Course State). played entered.cog start d asked.3) (sym course) ∙ sym (one-more entered turns asked.0 s asked.2 asked.3 asked.6) ∙ asked.7 in
+    ap (λ (d : Course SpinState). played entered.cog start d asked.3) (sym course) ∙ sym (one-more entered turns asked.0 s asked.2 asked.3 asked.6) ∙ asked.7 in
     let on = asked-on entered.cog start _ s.frame has.offset stays asked.3 asked.4 asked.5 plays in
     let access : turn.access ≡ asked.5 = turn-asks w history later past turn legal is_history origin running entered begins asked.4 asked.5 (asked.0 + 1, asked.7) in
     record {

@@ -1,6 +1,6 @@
 use Rattle.std.proofs.Common.{◌%◌, List, refl, sym, subst, arith}
 use Rattle.std.specs.Prelude.{◌==◌}
-use Rattle.p8_lexer.specs.declared.spelling.Mark.{Mark}
+use Rattle.p8_lexer.specs.declared.spelling.Checkpoint.{Checkpoint}
 use Rattle.p8_lexer.specs.Marks.{AreMarks}
 use Rattle.p8_lexer.proofs.Marking.{first-mark, one-more}
 use Rattle.p8_lexer.proofs.spelling.marks_of.Goals as goal
@@ -9,7 +9,7 @@ pub loop-at-init : goal.loop-at-init
 loop-at-init c = record {
   at = refl;
   mark = first-mark c.args.text.now;
-  are = subst (λ (marks : List Mark). AreMarks c.args.text.now marks) (sym c.new-marks.ensures.items) tt;
+  are = subst (λ (marks : List Checkpoint). AreMarks c.args.text.now marks) (sym c.new-marks.ensures.items) tt;
 }
 
 pub next_mark-mark-requires-clause-within : goal.next_mark-mark-requires-clause-within

@@ -2,7 +2,7 @@ use Rattle.p8_lexer.specs.declared.word.Word.TheVariants as word
 use Rattle.p8_expr.proofs.Runs.{refuted}
 use Rattle.p8_lines.specs.declared.arrow.Arrow.{Arrow}
 use Rattle.p8_lines.specs.declared.sign.Sign.TheVariants as sign
-use Rattle.p8_lines.specs.declared.state.State.TheVariants as state
+use Rattle.p8_lines.specs.declared.state.LineState.TheVariants as state
 use Rattle.std.proofs.Common.{get_or}
 use Rattle.p8_lines.specs.Signs.{Matches}
 use Rattle.p8_lines.proofs.Targets.{none_skipped, one_more, leads_there, leads_nowhere}

@@ -1,15 +1,15 @@
 use Rattle.std.proofs.Common.{◌≡◌, refl, subst}
 use Rattle.std.specs.Prelude.{IfOk}
 use Rattle.p8_lexer.specs.Pieces.{piece_of}
-use Rattle.p8_lines.specs.declared.state.State.{State}
-use Rattle.p8_lines.specs.declared.state.State.TheVariants as state
+use Rattle.p8_lines.specs.declared.state.LineState.{LineState}
+use Rattle.p8_lines.specs.declared.state.LineState.TheVariants as state
 use Rattle.p8_lines.specs.Tokens.{LineToken, piece}
 use Rattle.p8_lines.specs.Lines.{piece_in}
 use Rattle.p8_lines.specs.Stopping.{token_at}
 use Rattle.p8_lines.proofs.reading.piece_in.Goals as goal
 
 -- no label stands there
-no_label : (q : State) (t : LineToken) → (q ≡ state.DatLabel → ⊥) → (q ≡ state.CallLocal → ⊥) → piece t ≡ piece_in q t
+no_label : (q : LineState) (t : LineToken) → (q ≡ state.DatLabel → ⊥) → (q ≡ state.CallLocal → ⊥) → piece t ≡ piece_in q t
 no_label state.DatLabel t n m = absurd (n refl)
 no_label state.CallLocal t n m = absurd (m refl)
 no_label q t n m = refl

@@ -5,7 +5,7 @@ use Rattle.p8_grammar.specs.Views.{setting_of}
 use Rattle.p8_tree.specs.declared.faults.Fault.{Fault}
 use Rattle.p8_tree.specs.Faults.{IfRefused}
 use Rattle.p8_lexer.specs.Pieces.{pieces_of}
-use Rattle.p8_lines.specs.declared.state.State.TheVariants as state
+use Rattle.p8_lines.specs.declared.state.LineState.TheVariants as state
 use Rattle.p8_lines.specs.Tokens.{tokens_from}
 use Rattle.p8_lines.specs.Lines.{Reads, refused}
 use Rattle.p8_lines.specs.Stopping.{Stops}

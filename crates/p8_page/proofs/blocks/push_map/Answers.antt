@@ -1,5 +1,5 @@
 use Rattle.std.proofs.lemmas.Result.{on_ok_weaker}
-use Rattle.p8_page.specs.declared.kind.Kind.TheVariants as kind
+use Rattle.p8_page.specs.declared.block_kind.BlockKind.TheVariants as kind
 use Rattle.p8_page.specs.Blocks.{block_text}
 use Rattle.p8_page.proofs.Joining.{one}
 use Rattle.p8_page.proofs.blocks.push_map.Goals as goal

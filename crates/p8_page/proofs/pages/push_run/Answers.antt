@@ -1,7 +1,7 @@
 use Rattle.std.proofs.Common.{flat_map}
 use Rattle.std.proofs.lemmas.Result.{on_ok_weaker}
 use Rattle.p8_pins.specs.LevelChanges.{lines_of}
-use Rattle.p8_page.specs.declared.kind.Kind.TheVariants as kind
+use Rattle.p8_page.specs.declared.block_kind.BlockKind.TheVariants as kind
 use Rattle.p8_page.specs.Blocks.{block_text}
 use Rattle.p8_page.specs.Kept.{kept}
 use Rattle.p8_page.specs.Page.{pins_line, range_text, windows_text}

@@ -1,4 +1,4 @@
-use Rattle.p8_lines.specs.declared.state.State.TheVariants as state
+use Rattle.p8_lines.specs.declared.state.LineState.TheVariants as state
 use Rattle.p8_lines.specs.Tokens.{terms}
 use Rattle.p8_lines.proofs.Readings.{leads_row}
 use Rattle.p8_printed.proofs.ReadLines.{line_back}

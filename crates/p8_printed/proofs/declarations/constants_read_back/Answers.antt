@@ -1,6 +1,6 @@
 use Rattle.std.proofs.lemmas.List.Elements.{All-weaker}
 use Rattle.p8_tree.specs.Proper.{IsProperConstant}
-use Rattle.p8_lines.specs.declared.state.State.TheVariants as state
+use Rattle.p8_lines.specs.declared.state.LineState.TheVariants as state
 use Rattle.p8_lines.specs.Tokens.{terms}
 use Rattle.p8_printed.proofs.Constants.{IsReadBack}
 use Rattle.p8_printed.proofs.ReadLines.{constant_back}

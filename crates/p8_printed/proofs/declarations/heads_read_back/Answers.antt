@@ -1,4 +1,4 @@
-use Rattle.p8_lines.specs.declared.state.State.TheVariants as state
+use Rattle.p8_lines.specs.declared.state.LineState.TheVariants as state
 use Rattle.p8_lines.specs.Tokens.{terms}
 use Rattle.p8_printed.proofs.ReadLines.{head_back}
 use Rattle.p8_printed.proofs.declarations.heads_read_back.Goals as goal

@@ -1,6 +1,6 @@
 use Rattle.std.proofs.lemmas.List.Elements.{All-weaker}
 use Rattle.p8_tree.specs.Proper.{IsProperChild}
-use Rattle.p8_lines.specs.declared.state.State.TheVariants as state
+use Rattle.p8_lines.specs.declared.state.LineState.TheVariants as state
 use Rattle.p8_lines.specs.Tokens.{terms}
 use Rattle.p8_printed.proofs.Objects.{IsReadBack}
 use Rattle.p8_printed.proofs.ReadLines.{object_back}

@@ -20,5 +20,5 @@ loop-turn-preserved c = record {
       one_more w c.args.turns.now c.loop-turn.turn-index _ _ _ c.loop-turn-test.true (c.in_ok-at.ensures.text w (reverse (take c.loop-turn.turn-index c.args.turns.now)) (c.loop-turn.invariant.origins w first)) (c.loop-turn.invariant.text w first);
   origins = λ w first.
       let past = reverse (take c.loop-turn.turn-index c.args.turns.now) in
-      subst (λ (turns : List Turn). AreOrigins w turns c.note.new.self) (sym (next c.args.turns.now c.loop-turn.turn-index _ c.loop-turn-test.true)) (c.note.ensures w past (c.loop-turn.invariant.origins w first));
+      subst (λ (turns : List Turn). AreOrigins w turns c.record_turn.new.self) (sym (next c.args.turns.now c.loop-turn.turn-index _ c.loop-turn-test.true)) (c.record_turn.ensures w past (c.loop-turn.invariant.origins w first));
 }

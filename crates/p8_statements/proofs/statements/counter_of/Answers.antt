@@ -6,4 +6,4 @@ pub returns-in-Var : goal.returns-in-Var
 returns-in-Var c p = counter_form c.args.kind c.in-Var.target p c.name_alone.result c.in-Var.is c.name_alone.ensures
 
 pub returns-in_default : goal.returns-in_default
-returns-in_default c p = c.without.ensures ∙ counter_none c.args.kind p c.in_default.not-Var
+returns-in_default c p = c.discarding.ensures ∙ counter_none c.args.kind p c.in_default.not-Var

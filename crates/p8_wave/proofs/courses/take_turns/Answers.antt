@@ -12,5 +12,5 @@ loop-left-preserved c =
     let some = c.in-len1-up.len_at_least in
     record {
       left = ap (left_by c.args.clock) c.after_first-left.ensures ∙ left_step c.args.clock left _ some c.if-turn-clock.false ∙ c.loop-left.invariant.left;
-      signals = λ w past signals. taking_step w c.args.clock c.args.turns.now past left c.after_first-left.result.now c.loop-left.signals c.note.new.self _ some c.if-turn-clock.false c.after_first-left.ensures (c.note.ensures w) (c.loop-left.invariant.signals w past signals);
+      signals = λ w past signals. taking_step w c.args.clock c.args.turns.now past left c.after_first-left.result.now c.loop-left.signals c.record_turn.new.self _ some c.if-turn-clock.false c.after_first-left.ensures (c.record_turn.ensures w) (c.loop-left.invariant.signals w past signals);
     }

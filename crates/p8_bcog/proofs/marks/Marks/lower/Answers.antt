@@ -1,5 +1,5 @@
 use Rattle.std.proofs.Common.{◌-◌, List, length, drop, reverse, ◌∙◌, ap}
-use Rattle.p8_bcog.specs.declared.marks.Mark.{Mark}
+use Rattle.p8_bcog.specs.declared.marks.CallMark.{CallMark}
 use Rattle.p8_bcog.specs.Reversing.{reverse-take}
 use Rattle.p8_bcog.proofs.marks.Marks.lower.Goals as goal
 
@@ -7,4 +7,4 @@ pub returns : goal.returns
 returns c =
     ap reverse c.truncate.ensures.items
     ∙ reverse-take c.args.count c.self.inside.marks.items
-    ∙ ap (λ (xs : List Mark). drop (length xs - c.args.count) xs) c.self.view_is
+    ∙ ap (λ (xs : List CallMark). drop (length xs - c.args.count) xs) c.self.view_is

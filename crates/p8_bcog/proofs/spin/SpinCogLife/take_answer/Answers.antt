@@ -2,8 +2,8 @@ use Rattle.std.proofs.Common.{◌+◌, ◌++◌, ◌∷◌, [], refl, sym, ap, �
 use Rattle.p8_access.specs.declared.kinds.Width.TheVariants.{Long}
 use Rattle.p8_access.specs.declared.kinds.Access.TheVariants.{Halt}
 use Rattle.p8_access.specs.Replaying.{behind-later, behind-near}
-use Rattle.p8_bcog.specs.declared.stage.Stage.{Stage}
-use Rattle.p8_bcog.specs.declared.stage.Stage.TheVariants.{Ready, Over}
+use Rattle.p8_bcog.specs.declared.stage.SpinStage.{SpinStage}
+use Rattle.p8_bcog.specs.declared.stage.SpinStage.TheVariants.{Ready, Over}
 use Rattle.p8_bcog.specs.Accesses.{word_in, write_of}
 use Rattle.p8_bcog.proofs.Keeping.{announces_none, placed}
 use Rattle.p8_bcog.proofs.Answering.{came, asked_here, halted_here, entering_here, never_asks, asked_over, halted_over, resumed_stands, entering_stands}
@@ -93,7 +93,7 @@ returns-then-is_last-clause-placed c = λ b ts stands live.
 pub returns-else-is_last-clause-stands : goal.returns-else-is_last-clause-stands
 returns-else-is_last-clause-stands c =
     resumed_stands c.args.self.now.counter c.args.self.now.code c.args.self.now.done c.done_by.result c.args.self.now.cog c.args.self.now.stage c.resume.new.stage c.args.self.now.state c.resume.new.self c.args.self.now.clock c.behind-clock.result (word_in c.args.turn.now.answer) c.in-Asked.access c.in-Asked.later c.args.turn.now c.in-Asked.is (sym c.is_last.ensures ∙ c.if-is_last.false) (c.resume.ensures.under ∙ ap is_under c.in-Asked.is) c.done_by.ensures.done c.behind-clock.ensures refl
-    (c.resume.ensures.does ∙ ap (λ (st : Stage). resumed st c.args.self.now.state (word_in c.args.turn.now.answer)) c.in-Asked.is)
+    (c.resume.ensures.does ∙ ap (λ (st : SpinStage). resumed st c.args.self.now.state (word_in c.args.turn.now.answer)) c.in-Asked.is)
 
 pub returns-else-is_last-clause-placed : goal.returns-else-is_last-clause-placed
 returns-else-is_last-clause-placed c = λ b ts stands live.

@@ -1,7 +1,7 @@
 use Rattle.std.proofs.Common.{[], ◌∷◌, ◌∙◌, refl, sym, subst, map}
 use Rattle.p8_tree.specs.Views.{block_of}
 use Rattle.p8_tree.specs.Faults.{IfRefused}
-use Rattle.p8_lines.specs.declared.state.State.TheVariants as state
+use Rattle.p8_lines.specs.declared.state.LineState.TheVariants as state
 use Rattle.p8_lines.specs.Tokens.{tokens_from}
 use Rattle.p8_lines.specs.Lines.{refused, Reads}
 use Rattle.p8_blocks.specs.Reading.{at, AreBlocks, no_blocks, Fails}

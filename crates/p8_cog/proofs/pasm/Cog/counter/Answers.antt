@@ -1,6 +1,6 @@
 use Rattle.std.proofs.Common.{◌≡◌, ◌⊎◌, inl, inr, ℕ, sym, ◌∙◌, refl}
-use Rattle.p8_cog.specs.declared.stage.Stage.{Stage}
-use Rattle.p8_cog.specs.declared.stage.Stage.TheVariants.{Loading, Running, Over}
+use Rattle.p8_cog.specs.declared.stage.PasmStage.{PasmStage}
+use Rattle.p8_cog.specs.declared.stage.PasmStage.TheVariants.{Loading, Running, Over}
 use Rattle.p8_cog.specs.Stops.{announced_at}
 use Rattle.p8_cog.proofs.Counting.{others-count, running-counts, told-announces}
 use Rattle.p8_cog.proofs.pasm.Cog.counter.Goals as goal
@@ -13,7 +13,7 @@ pub returns-in-Running-clause-none : goal.returns-in-Running-clause-none
 returns-in-Running-clause-none c = λ none.
     absurd (told-announces c.args.self.now.cog c.args.self.now.code c.args.self.now.stage c.args.self.now.state c.args.self.now.asking c.args.self.now.told c.if-not-self.false none)
 
-not-running : (stage : Stage) → (stage ≡ Loading) ⊎ (stage ≡ Over) → stage ≡ Running → ⊥
+not-running : (stage : PasmStage) → (stage ≡ Loading) ⊎ (stage ≡ Over) → stage ≡ Running → ⊥
 not-running stage (inl is) running = absurd (let x : Loading ≡ Running = sym is ∙ running in cc)
 not-running stage (inr is) running = absurd (let x : Over ≡ Running = sym is ∙ running in cc)
 

@@ -1,6 +1,6 @@
 use Rattle.std.proofs.Common.{◌≡◌, ◌∙◌, ℕ, ◌+◌, true, false, sym, subst, arith}
 use Rattle.p8_access.specs.Lives.{announced_by, IsThorough}
-use Rattle.p8_cog.specs.declared.stage.Stage.TheVariants.{Loading, Running}
+use Rattle.p8_cog.specs.declared.stage.PasmStage.TheVariants.{Loading, Running}
 use Rattle.p8_cog.specs.Replay.{Begins}
 use Rattle.p8_cog.specs.Standing.{standing_at, clock_of}
 use Rattle.p8_cog.specs.Stops.{Stops}

@@ -1,5 +1,5 @@
 use Rattle.std.proofs.Common.{◌≡◌, true, false, Some, None, ℕ, ◌+◌, ◌++◌, ◌∷◌, [], subst, arith}
-use Rattle.p8_cog.specs.declared.stage.Stage.TheVariants.{Loading, Over}
+use Rattle.p8_cog.specs.declared.stage.PasmStage.TheVariants.{Loading, Over}
 use Rattle.p8_cog.specs.Standing.{clock_of}
 use Rattle.p8_cog.specs.Stops.{Loads, announced_at}
 use Rattle.p8_cog.specs.Keeping.{comes-running, comes-never, comes-read, load-holds, load-clock, load-stands, IsLoaded, announces-none, not-in-load, over-stands, whole-stands, half-stands, placed}

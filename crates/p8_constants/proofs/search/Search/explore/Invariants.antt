@@ -1,5 +1,5 @@
 use Rattle.std.proofs.Common.{◌≢◌}
-use Rattle.p8_constants.specs.declared.search.Mark.TheVariants.{New}
+use Rattle.p8_constants.specs.declared.search.NodeState.TheVariants.{New}
 use Rattle.p8_constants.specs.Searches.{mark, IsState, IsFurther, work}
 use Rattle.p8_constants.proofs.search.Search.explore.Given as goal
 

@@ -1,6 +1,6 @@
 use Rattle.std.proofs.Common.{◌≡◌, ◌∙◌, ◌<◌, length, subst, sym, ap, arith}
 use Rattle.std.proofs.lemmas.List.{get_or_read}
-use Rattle.p8_constants.specs.declared.search.Mark.TheVariants.{New, Open, Done}
+use Rattle.p8_constants.specs.declared.search.NodeState.TheVariants.{New, Open, Done}
 use Rattle.p8_constants.specs.Searches.{mark}
 use Rattle.p8_constants.proofs.Following.{skipped}
 use Rattle.p8_constants.proofs.search.Search.follow.Goals as goal

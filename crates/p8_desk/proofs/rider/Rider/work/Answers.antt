@@ -17,8 +17,8 @@ settle-answer-requires-clause-granted c =
       k.rides,
     )
 
-pub note-requires : goal.note-requires
-note-requires c =
+pub record_answer-requires : goal.record_answer-requires
+record_answer-requires c =
     let h = c.requires.stands in
     let small = h.3 in
     let few = h.5.few in
@@ -35,6 +35,6 @@ returns-clause-worked c = λ w r script stands carries.
       truthful = k.stands.truth;
       answers = settled.answers;
       stands = settled.stands;
-      carries = carries-answered w n c.args.self.now.runner.next r s k.speaks c.args.self.now _ carries refl refl c.settle-answer.result settled.answers settled.rides c.note.ensures.made c.note.ensures.over;
+      carries = carries-answered w n c.args.self.now.runner.next r s k.speaks c.args.self.now _ carries refl refl c.settle-answer.result settled.answers settled.rides c.record_answer.ensures.made c.record_answer.ensures.over;
       count = c.count-count.ensures w _ settled.stands;
     }

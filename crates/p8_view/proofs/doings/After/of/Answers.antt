@@ -8,11 +8,11 @@ use Rattle.p8_view.proofs.doings.After.of.Goals as goal
 pub origin-requires : goal.origin-requires
 origin-requires c = of_eight c.args.turns.now c.loop-number.number _ c.requires (omega arith)
 
-pub note-requires : goal.note-requires
-note-requires c = of_eight c.args.turns.now c.loop-number.number _ c.requires (omega arith)
+pub record_turn-requires : goal.record_turn-requires
+record_turn-requires c = of_eight c.args.turns.now c.loop-number.number _ c.requires (omega arith)
 
-pub note-requires-in-loop-number : goal.note-requires-in-loop-number
-note-requires-in-loop-number c = of_eight c.args.turns.now c.loop-number.number _ c.requires (omega arith)
+pub record_turn-requires-in-loop-number : goal.record_turn-requires-in-loop-number
+record_turn-requires-in-loop-number c = of_eight c.args.turns.now c.loop-number.number _ c.requires (omega arith)
 
 pub loop-number-init : goal.loop-number-init
 loop-number-init c = record {
@@ -27,9 +27,9 @@ loop-number-preserved c =
     record {
       doings = λ w first.
           doings_more w c.args.counters.now turns number _ _ (omega arith)
-          (c.note.ensures w c.args.counters.now (reverse (take number turns)) (c.origin.ensures w (reverse (take number turns)) (c.loop-number.invariant.cogs w first))
+          (c.record_turn.ensures w c.args.counters.now (reverse (take number turns)) (c.origin.ensures w (reverse (take number turns)) (c.loop-number.invariant.cogs w first))
           (c.counter_of.ensures ∙ ap (counter_of c.args.counters.now) (sym (so_many turns number (omega arith)))) (c.loop-number.invariant.doings w first));
-      cogs = λ w first. cogs_more w turns number _ _ (omega arith) (c.note-in-loop-number.ensures w (reverse (take number turns)) (c.loop-number.invariant.cogs w first));
+      cogs = λ w first. cogs_more w turns number _ _ (omega arith) (c.record_turn-in-loop-number.ensures w (reverse (take number turns)) (c.loop-number.invariant.cogs w first));
     }
 
 pub returns : goal.returns
