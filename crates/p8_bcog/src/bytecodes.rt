@@ -25,7 +25,15 @@ use crate::stage::SpinStage;
 use crate::state::SpinState;
 use crate::step::Step;
 use p8_access::{Access, Origin, Reason, Test, Width};
-use p8_bytecode::{Op, take_op};
+use p8_bytecode::{
+    ABORT, ABORT_WITH_RETURN, BRANCH, BYTEFILL, BYTEMOVE, CALL, COGINIT, COGINIT_RETURNS, COGSTOP,
+    COMPARE_CASE, COMPARE_CASE_RANGE, INDEXED_MEM_OP, INDEXED_RANGE_MEM_OP, JUMP_FROM_STACK,
+    JUMP_IF_FALSE, JUMP_IF_TRUE, LOCKCLR_RETURNS, LOCKNEW, LOCKNEW_RETURNS, LOCKRET, LOCKSET,
+    LOCKSET_RETURNS, LONGFILL, LONGMOVE, LOOKDOWN_COMPARE, LOOKDOWNRANGE_COMPARE, LOOKUP_COMPARE,
+    LOOKUPRANGE_COMPARE, LOOP_CONTINUE, LOOP_START, MARK_INTERPRETED, OBJCALL, OBJCALL_INDEXED, Op,
+    POP_RETURN, PUSH_0, PUSH_1, PUSH_NEG1, PUSH_PACKED_LIT, QUIT, RETURN, STRCOMP, STRSIZE,
+    WAITCNT, WAITPEQ, WORDFILL, WORDMOVE, take_op,
+};
 use p8_words::{binary, is_unary, rotated_left, unary};
 
 /// A value less 1, where the flag is set.
@@ -55,10 +63,10 @@ fn constant(op: Op) -> u32
     ensures { result ≡ constant op }
 {
     match op.code {
-        0x34 => u32::MAX,
-        0x35 => 0,
-        0x36 => 1,
-        0x37 => packed(op.first),
+        PUSH_NEG1 => u32::MAX,
+        PUSH_0 => 0,
+        PUSH_1 => 1,
+        PUSH_PACKED_LIT => packed(op.first),
         _ => op.first,
     }
 }
@@ -125,13 +133,13 @@ impl SpinState {
     {
         match op.code {
             0x00..=0x03 => self.open_mark(op.code),
-            0x04 => {
+            BRANCH => {
                 self.jump(op.first);
                 Ok(Step::Done)
             }
-            0x05 => self.call_own(memory, op.first),
-            0x06 => self.call_object(memory, op.first, op.second),
-            0x07 => self.call_indexed(memory, op.first, op.second, op.third),
+            CALL => self.call_own(memory, op.first),
+            OBJCALL => self.call_object(memory, op.first, op.second),
+            OBJCALL_INDEXED => self.call_indexed(memory, op.first, op.second, op.third),
             _ => unreachable!(),
         }
     }
@@ -142,13 +150,13 @@ impl SpinState {
         ensures does { finishes result self.new ≡ test_row op self.old }
     {
         match op.code {
-            0x08 => self.loop_begins(op.first),
-            0x09 => self.loop_ends(op.first),
-            0x0A => self.jump_if_zero(op.first),
-            0x0B => self.jump_unless_zero(op.first),
-            0x0C => self.drops(),
-            0x0D => self.case_value(op.first),
-            0x0E => self.case_range(op.first),
+            LOOP_START => self.loop_begins(op.first),
+            LOOP_CONTINUE => self.loop_ends(op.first),
+            JUMP_IF_FALSE => self.jump_if_zero(op.first),
+            JUMP_IF_TRUE => self.jump_unless_zero(op.first),
+            JUMP_FROM_STACK => self.drops(),
+            COMPARE_CASE => self.case_value(op.first),
+            COMPARE_CASE_RANGE => self.case_range(op.first),
             _ => self.look_fails(),
         }
     }
@@ -163,15 +171,15 @@ impl SpinState {
         ensures good { IsGood result self.new }
     {
         match op.code {
-            0x10 => self.lookup_value(op.first),
-            0x11 => self.lookdown_value(op.first),
-            0x12 => self.lookup_range(op.first),
-            0x13 => self.lookdown_range(op.first),
-            0x14 => {
+            LOOKUP_COMPARE => self.lookup_value(op.first),
+            LOOKDOWN_COMPARE => self.lookdown_value(op.first),
+            LOOKUPRANGE_COMPARE => self.lookup_range(op.first),
+            LOOKDOWNRANGE_COMPARE => self.lookdown_range(op.first),
+            QUIT => {
                 self.drops()?;
                 Ok(Step::Done)
             }
-            0x15 => self.start_method(memory, op.first, op.second),
+            MARK_INTERPRETED => self.start_method(memory, op.first, op.second),
             _ => unreachable!(),
         }
     }
@@ -198,15 +206,15 @@ impl SpinState {
         ensures good { IsGood result self.new }
     {
         match op.code {
-            0x16 => self.text_size(),
-            0x17 => self.text_compare(),
-            0x18 => self.fill(Width::Byte),
-            0x19 => self.fill(Width::Word),
-            0x1A => self.fill(Width::Long),
-            0x1B => self.wait_row(true),
-            0x1C => self.move_elements(Width::Byte),
-            0x1D => self.move_elements(Width::Word),
-            0x1E => self.move_elements(Width::Long),
+            STRSIZE => self.text_size(),
+            STRCOMP => self.text_compare(),
+            BYTEFILL => self.fill(Width::Byte),
+            WORDFILL => self.fill(Width::Word),
+            LONGFILL => self.fill(Width::Long),
+            WAITPEQ => self.wait_row(true),
+            BYTEMOVE => self.move_elements(Width::Byte),
+            WORDMOVE => self.move_elements(Width::Word),
+            LONGMOVE => self.move_elements(Width::Long),
             _ => self.wait_row(false),
         }
     }
@@ -234,21 +242,21 @@ impl SpinState {
         let value = self.peek(0);
         let number = number_in(value);
         match op.code {
-            0x21 => self.tell(1, Access::CogStop { cog: number }),
-            0x22 => self.tell(1, Access::LockRet { lock: number }),
-            0x23 => self.tell(
+            COGSTOP => self.tell(1, Access::CogStop { cog: number }),
+            LOCKRET => self.tell(1, Access::LockRet { lock: number }),
+            WAITCNT => self.tell(
                 1,
                 Access::Wait {
                     test: Test::Count { target: value },
                 },
             ),
-            0x28 => self.ask_word(3, self.pasm_start()),
-            0x29 => self.ask_word(0, Access::LockNew),
-            0x2A => self.ask_word(1, Access::LockSet { lock: number }),
-            0x2B => self.ask_word(1, Access::LockClr { lock: number }),
-            0x2C => self.tell(3, self.pasm_start()),
-            0x2D => self.tell(0, Access::LockNew),
-            0x2E => self.tell(1, Access::LockSet { lock: number }),
+            COGINIT_RETURNS => self.ask_word(3, self.pasm_start()),
+            LOCKNEW_RETURNS => self.ask_word(0, Access::LockNew),
+            LOCKSET_RETURNS => self.ask_word(1, Access::LockSet { lock: number }),
+            LOCKCLR_RETURNS => self.ask_word(1, Access::LockClr { lock: number }),
+            COGINIT => self.tell(3, self.pasm_start()),
+            LOCKNEW => self.tell(0, Access::LockNew),
+            LOCKSET => self.tell(1, Access::LockSet { lock: number }),
             _ => self.tell(1, Access::LockClr { lock: number }),
         }
     }
@@ -274,16 +282,16 @@ impl SpinState {
         ensures good { IsGood result self.new }
     {
         match op.code {
-            0x30 => self.abort_result(cog),
-            0x31 => self.abort_value(cog),
-            0x32 => self.return_result(cog),
-            0x33 => self.return_value(cog),
+            ABORT => self.abort_result(cog),
+            ABORT_WITH_RETURN => self.abort_value(cog),
+            RETURN => self.return_result(cog),
+            POP_RETURN => self.return_value(cog),
             0x34..=0x3B => {
                 self.leave_constant(constant(op))?;
                 Ok(Step::Done)
             }
-            0x3D => self.one_pin(op),
-            0x3E => self.some_pins(op),
+            INDEXED_MEM_OP => self.one_pin(op),
+            INDEXED_RANGE_MEM_OP => self.some_pins(op),
             _ => self.whole_register(op),
         }
     }

@@ -11,6 +11,10 @@ use crate::bytecodes::packed;
 use crate::stage::SpinStage;
 use crate::state::SpinState;
 use p8_access::Reason;
+use p8_bytecode::{
+    BRANCH, JUMP_IF_FALSE, JUMP_IF_TRUE, LOOP_CONTINUE, LOOP_START, PUSH_0, PUSH_1, PUSH_BYTE_LIT,
+    PUSH_NEG1, PUSH_PACKED_LIT,
+};
 
 /// The offset of a jump by its only byte, a word in two's complement.
 #[inline]
@@ -122,44 +126,44 @@ impl SpinState {
             (λ finished. (rest : List ℕ) → IsQuick (byte ∷ operand ∷ low ∷ rest) self.old (finishes finished self.new)) }
     {
         match byte {
-            0x04 => {
+            BRANCH => {
                 self.pass_jump(operand);
                 self.jump(offset_of(operand, low));
                 Some(Ok(()))
             }
-            0x08 => {
+            LOOP_START => {
                 self.pass_jump(operand);
                 Some(self.loop_begins(offset_of(operand, low)))
             }
-            0x09 => {
+            LOOP_CONTINUE => {
                 self.pass_jump(operand);
                 Some(self.loop_ends(offset_of(operand, low)))
             }
-            0x0A => {
+            JUMP_IF_FALSE => {
                 self.pass_jump(operand);
                 Some(self.jump_if_zero(offset_of(operand, low)))
             }
-            0x0B => {
+            JUMP_IF_TRUE => {
                 self.pass_jump(operand);
                 Some(self.jump_unless_zero(offset_of(operand, low)))
             }
-            0x34 => {
+            PUSH_NEG1 => {
                 self.pass(1);
                 Some(self.leave_constant(u32::MAX))
             }
-            0x35 => {
+            PUSH_0 => {
                 self.pass(1);
                 Some(self.leave_constant(0))
             }
-            0x36 => {
+            PUSH_1 => {
                 self.pass(1);
                 Some(self.leave_constant(1))
             }
-            0x37 if operand < 128 => {
+            PUSH_PACKED_LIT if operand < 128 => {
                 self.pass(2);
                 Some(self.leave_constant(packed(u32::from(operand))))
             }
-            0x38 => {
+            PUSH_BYTE_LIT => {
                 self.pass(2);
                 Some(self.leave_constant(u32::from(operand)))
             }

@@ -24,6 +24,9 @@ use p8_region::Strip;
 use p8_words::NoMemory;
 use std::alloc::Global;
 
+/// How many clocks after its Begin a cog begins its first bytecode.
+const START_CLOCKS: u64 = 8192;
+
 /// A cog that runs Spin, from a start on.
 ///
 /// It keeps its stack, marks, calls and registers, how far it is in the bytecode at hand, and whether it has announced
@@ -191,8 +194,8 @@ impl SpinCog {
             cog,
             state,
             stage: SpinStage::Entering,
-            clock: begin + 8192,
-            reached: begin + 8192,
+            clock: begin + START_CLOCKS,
+            reached: begin + START_CLOCKS,
             done: 0,
             asking: false,
             counter: 0,
@@ -220,8 +223,8 @@ impl SpinCog {
         self.state.begin(origin);
         self.cog = cog;
         self.stage = SpinStage::Entering;
-        self.clock = begin + 8192;
-        self.reached = begin + 8192;
+        self.clock = begin + START_CLOCKS;
+        self.reached = begin + START_CLOCKS;
         self.done = 0;
     }
 

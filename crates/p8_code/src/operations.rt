@@ -12,7 +12,9 @@ ghost use Rattle.p8_code.specs.Operations.{text_used as text_at, variable_text};
 ghost use Rattle.p8_code.specs.Views.{scope_in, scope_of};
 
 use crate::bytecodes::{effect_name, push_bytecode_name, register_name};
-use p8_bytecode::{Op, Operands, operands_of, take_op};
+use p8_bytecode::{
+    CALL, MARK_INTERPRETED, OBJCALL, OBJCALL_INDEXED, Op, Operands, operands_of, take_op,
+};
 use p8_image::{MethodPart, ObjectPart, TextUse};
 use p8_instr::{push_text, word_digits};
 use p8_legend::{Ranges, push_address, push_frame};
@@ -164,13 +166,13 @@ fn push_call(out: &mut Vec<u8>, scope: Option<&Scope<'_>>, op: &Op) -> Result<()
     ensures { OnOk result (out.new.items ≡ out.old.items ++ call_text (scope_in scope.entry) op.now) }
 {
     match op.code {
-        0x05 => push_own(out, scope, op.first),
-        0x06 => push_called(out, scope, op.first, op.second),
-        0x07 => {
+        CALL => push_own(out, scope, op.first),
+        OBJCALL => push_called(out, scope, op.first, op.second),
+        OBJCALL_INDEXED => {
             push_called(out, scope, op.first, op.third)?;
             push_behind(out, b" of ", op.second)
         }
-        0x15 => {
+        MARK_INTERPRETED => {
             push_own(out, scope, op.first)?;
             push_behind(out, b" ", op.second)
         }

@@ -14,6 +14,9 @@ use p8_instr::decode;
 use p8_words::NoMemory;
 use std::alloc::Global;
 
+/// How many clocks after the Load of its code a cog begins its first instruction.
+const START_CLOCKS: u64 = 8192;
+
 /// What stands in a cog where an instruction begins.
 #[derive(Drop)]
 pub struct PasmState {
@@ -91,7 +94,7 @@ impl PasmState {
         self.registers.clear_special();
         self.at = 0;
         self.long = self.registers.get(0);
-        self.clock += 8192 - 16 * u64::from(LOADED_LONGS);
+        self.clock += START_CLOCKS - 16 * u64::from(LOADED_LONGS);
         self.c = false;
         self.z = false;
     }

@@ -11,7 +11,11 @@ ghost use Rattle.p8_gen.specs.Writing.{Stands};
 
 use crate::coder::Coder;
 use crate::writer::{Writer, bare};
-use p8_bytecode::Op;
+use p8_bytecode::{
+    CALL, COGINIT, COGINIT_RETURNS, LOCKNEW_RETURNS, LOOKUPRANGE_COMPARE, MARK_INTERPRETED,
+    MEMORY_OP, OBJCALL, OBJCALL_INDEXED, Op, PUSH_0, PUSH_1, PUSH_BYTE_LIT, PUSH_MAINMEM_BYTE,
+    PUSH_MAINMEM_LONG, QUIT, STRCOMP, STRSIZE,
+};
 use p8_kinds::NameKind;
 use p8_tree::{Expr, ExprKind, Target, Text};
 use std::alloc::AllocError;
@@ -63,7 +67,7 @@ impl Writer {
         ensures { (w : Written) → Stands self.old w → OnOk result (Stands self.new (own_method kind w)) }
     {
         match kind {
-            Some(NameKind::Method { number, .. }) => self.with_number(0x05, u32::from(number)),
+            Some(NameKind::Method { number, .. }) => self.with_number(CALL, u32::from(number)),
             _ => Ok(()),
         }
     }
@@ -72,7 +76,7 @@ impl Writer {
     pub fn dropped(&mut self, used: bool) -> Result<(), AllocError>
         ensures { (w : Written) → Stands self.old w → OnOk result (Stands self.new (dropped used w)) }
     {
-        if used { Ok(()) } else { self.byte(0x14) }
+        if used { Ok(()) } else { self.byte(QUIT) }
     }
 
     /// Appends a word that gives a value without arguments.
@@ -80,14 +84,14 @@ impl Writer {
         ensures { (w : Written) → Stands self.old w → OnOk result (Stands self.new (built_value code w)) }
     {
         match code {
-            0x3F => self.with_number(0x3F, 0x89),
-            0xC0 => {
-                self.byte(0x35)?;
-                self.byte(0xC0)
+            MEMORY_OP => self.with_number(MEMORY_OP, 0x89),
+            PUSH_MAINMEM_LONG => {
+                self.byte(PUSH_0)?;
+                self.byte(PUSH_MAINMEM_LONG)
             }
             _ => {
-                self.with_number(0x38, 4)?;
-                self.byte(0x80)
+                self.with_number(PUSH_BYTE_LIT, 4)?;
+                self.byte(PUSH_MAINMEM_BYTE)
             }
         }
     }
@@ -98,9 +102,9 @@ impl Writer {
     {
         match code {
             0x29..=0x2B => self.byte(code + 4),
-            0x16 | 0x17 => {
+            STRSIZE | STRCOMP => {
                 self.byte(code)?;
-                self.byte(0x14)
+                self.byte(QUIT)
             }
             _ => self.byte(code),
         }
@@ -121,7 +125,7 @@ impl Writer {
     pub fn built_without(&mut self, used: bool, code: u8) -> Result<(), AllocError>
         ensures { (w : Written) → Stands self.old w → OnOk result (Stands self.new (built_without used code w)) }
     {
-        if code == 0x29 {
+        if code == LOCKNEW_RETURNS {
             self.built(used, code)
         } else {
             self.built_value(code)?;
@@ -133,7 +137,7 @@ impl Writer {
     pub fn pasm(&mut self, used: bool) -> Result<(), AllocError>
         ensures { (w : Written) → Stands self.old w → OnOk result (Stands self.new (pasm used w)) }
     {
-        self.byte(if used { 0x28 } else { 0x2C })
+        self.byte(if used { COGINIT_RETURNS } else { COGINIT })
     }
 
     /// Appends an operator after its operand; the sign `+` adds nothing.
@@ -150,7 +154,11 @@ impl Writer {
     pub fn counts_from(&mut self, code: u8) -> Result<(), AllocError>
         ensures { (w : Written) → Stands self.old w → OnOk result (Stands self.new (counts_from code w)) }
     {
-        self.byte(if code >= 0x12 { 0x35 } else { 0x36 })
+        self.byte(if code >= LOOKUPRANGE_COMPARE {
+            PUSH_0
+        } else {
+            PUSH_1
+        })
     }
 
     // Appends the call of a method of an object, which is alone or is told by an index.
@@ -167,13 +175,13 @@ impl Writer {
             None => self.one(Op {
                 first: u32::from(position),
                 second: u32::from(number),
-                ..bare(0x06)
+                ..bare(OBJCALL)
             }),
             Some(_) => self.one(Op {
                 first: u32::from(position),
                 second: u32::from(count),
                 third: u32::from(number),
-                ..bare(0x07)
+                ..bare(OBJCALL_INDEXED)
             }),
         }
     }
@@ -186,7 +194,7 @@ impl Writer {
         self.one(Op {
             first: u32::from(number),
             second: count,
-            ..bare(0x15)
+            ..bare(MARK_INTERPRETED)
         })
     }
 }

@@ -19,6 +19,11 @@ use crate::calls::looks_down;
 use crate::coder::Coder;
 use crate::variables::{Base, Home, Operation, assigned, effect_for, home_at, leaving};
 use crate::writer::Writer;
+use p8_bytecode::{
+    CALL, COGINIT, COGINIT_RETURNS, INDEXED_MEM_OP, INDEXED_RANGE_MEM_OP, LOOK_ABORT,
+    LOOKDOWN_COMPARE, LOOKDOWNRANGE_COMPARE, LOOKUP_COMPARE, LOOKUPRANGE_COMPARE, MEMORY_OP,
+    PUSH_NEG1, REFERENCE_INDEXED_OBJECTMEM_BYTE,
+};
 use p8_kinds::NameKind;
 use p8_tree::{Call, Expr, ExprKind, Item, Target, Text};
 use std::alloc::AllocError;
@@ -55,7 +60,7 @@ impl Coder<'_> {
             ExprKind::Address(variable) => self.operate(variable, Operation::Reference, out),
             ExprKind::ObjectAddress(offset) => {
                 self.value(offset, out)?;
-                out.byte(0x97)
+                out.byte(REFERENCE_INDEXED_OBJECTMEM_BYTE)
             }
             ExprKind::ObjConst(..) => out.number(self.constant(expr)),
             ExprKind::Built(code, arguments) => self.call_of_built(true, *code, arguments, out),
@@ -172,14 +177,14 @@ impl Coder<'_> {
             (operation_of operation) w)) }
     {
         match bits {
-            None => out.register(0x3F, address, operation),
+            None => out.register(MEMORY_OP, address, operation),
             Some(item) => {
                 self.value(&item.low, out)?;
                 match &item.high {
-                    None => out.register(0x3D, address, operation),
+                    None => out.register(INDEXED_MEM_OP, address, operation),
                     Some(high) => {
                         self.value(high, out)?;
-                        out.register(0x3E, address, operation)
+                        out.register(INDEXED_RANGE_MEM_OP, address, operation)
                     }
                 }
             }
@@ -223,7 +228,7 @@ impl Coder<'_> {
             BuiltForm::Word => out.built_without(used, code),
             BuiltForm::Constant => out.number(self.constant(&arguments[0])),
             BuiltForm::NewCog => {
-                out.byte(0x34)?;
+                out.byte(PUSH_NEG1)?;
                 self.started_value(&arguments[0], out)?;
                 self.value(&arguments[1], out)?;
                 self.started(used, &arguments[0], out)
@@ -292,7 +297,7 @@ impl Coder<'_> {
         for item in items {
             self.item(down, end, item, out)?;
         }
-        out.byte(0x0F)
+        out.byte(LOOK_ABORT)
     }
 
     // Appends one item of a LOOK function, with its jump to the end.
@@ -305,7 +310,11 @@ impl Coder<'_> {
             None => out.jump(
                 self.widths,
                 self.statement,
-                if down { 0x11 } else { 0x10 },
+                if down {
+                    LOOKDOWN_COMPARE
+                } else {
+                    LOOKUP_COMPARE
+                },
                 end,
             ),
             Some(high) => {
@@ -313,7 +322,11 @@ impl Coder<'_> {
                 out.jump(
                     self.widths,
                     self.statement,
-                    if down { 0x13 } else { 0x12 },
+                    if down {
+                        LOOKDOWNRANGE_COMPARE
+                    } else {
+                        LOOKUPRANGE_COMPARE
+                    },
                     end,
                 )
             }
@@ -371,7 +384,7 @@ impl Coder<'_> {
             Some(NameKind::Const(value)) => out.number(value),
             Some(NameKind::Method { number, .. }) => {
                 out.mark(true, false)?;
-                out.with_number(0x05, u32::from(number))
+                out.with_number(CALL, u32::from(number))
             }
             _ => out.one(self.home_of_kind(name, kind).plain_op(Operation::Push)),
         }
@@ -400,8 +413,8 @@ pub fn form_of_built(code: u8, count: usize) -> BuiltForm
     match count {
         0 => BuiltForm::Word,
         1 if code == 0 => BuiltForm::Constant,
-        2 if code == 0x2C => BuiltForm::NewCog,
-        3 if code == 0x28 => BuiltForm::ToldCog,
+        2 if code == COGINIT => BuiltForm::NewCog,
+        3 if code == COGINIT_RETURNS => BuiltForm::ToldCog,
         _ => BuiltForm::Plain,
     }
 }

@@ -11,7 +11,9 @@ ghost use Rattle.p8_gen.specs.Writing.{Stands};
 
 use crate::coder::Coder;
 use crate::writer::{Writer, bare};
-use p8_bytecode::Op;
+use p8_bytecode::{
+    Op, PUSH_0, PUSH_1, PUSH_BYTE_LIT, PUSH_LONG_LIT, PUSH_MID_LIT, PUSH_NEG1, PUSH_WORD_LIT,
+};
 use p8_kinds::NameKind;
 use p8_tree::Text;
 use std::alloc::AllocError;
@@ -196,13 +198,13 @@ impl Writer {
         ensures { (w : Written) → Stands self.old w → OnOk result (Stands self.new (number n w)) }
     {
         match n {
-            0 => self.byte(0x35),
-            1 => self.byte(0x36),
-            u32::MAX => self.byte(0x34),
-            _ if n < 1 << 8 => self.with_number(0x38, n),
-            _ if n < 1 << 16 => self.with_number(0x39, n),
-            _ if n < 1 << 24 => self.with_number(0x3A, n),
-            _ => self.with_number(0x3B, n),
+            0 => self.byte(PUSH_0),
+            1 => self.byte(PUSH_1),
+            u32::MAX => self.byte(PUSH_NEG1),
+            _ if n < 1 << 8 => self.with_number(PUSH_BYTE_LIT, n),
+            _ if n < 1 << 16 => self.with_number(PUSH_WORD_LIT, n),
+            _ if n < 1 << 24 => self.with_number(PUSH_MID_LIT, n),
+            _ => self.with_number(PUSH_LONG_LIT, n),
         }
     }
 

@@ -10,7 +10,7 @@ ghost use Rattle.p8_gen.specs.Writing.{Stands};
 
 use crate::code::StringUse;
 use crate::sizes::size_of;
-use p8_bytecode::Op;
+use p8_bytecode::{Op, REFERENCE_OBJECTMEM_BYTE};
 use p8_tree::Place;
 use std::alloc::{AllocError, Global};
 use std::mem;
@@ -271,7 +271,7 @@ impl Writer {
         ensures { (w : Written) → Stands self.old w → OnOk result (Stands self.new (text place 0 w)) }
     {
         self.record_text(place)?;
-        self.with_number(0x87, 0)
+        self.with_number(REFERENCE_OBJECTMEM_BYTE, 0)
     }
 
     // Keeps the way of one more jump.

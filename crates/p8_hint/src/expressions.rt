@@ -8,6 +8,7 @@ ghost use Rattle.p8_hint.specs.Spots.{in_trees, in_variable, in_test, named, of_
 ghost use Rattle.p8_hint.specs.SpotViews.{spots_of};
 
 use crate::spot::Spot;
+use p8_bytecode::{COGINIT, COGINIT_RETURNS, WAITPEQ, WAITPNE};
 use p8_tree::{Call, Expr, ExprKind, Item, Target, Text};
 use std::alloc::AllocError;
 
@@ -190,15 +191,15 @@ fn put_built<'a>(
 {
     match arguments {
         [begun, stack] => {
-            if code == 0x2C {
+            if code == COGINIT {
                 spots.push(Spot::Start(begun, stack))?;
             }
             Ok(())
         }
         [_, second, third] => {
-            if code == 0x28 {
+            if code == COGINIT_RETURNS {
                 spots.push(Spot::Start(second, third))?;
-            } else if code == 0x1B || code == 0x1F {
+            } else if code == WAITPEQ || code == WAITPNE {
                 spots.push(Spot::Port(third))?;
             }
             Ok(())

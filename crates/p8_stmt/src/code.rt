@@ -17,6 +17,7 @@ use crate::faults::first_fault;
 use crate::frames::{MethodSize, frame_longs, is_too_large, longs_in};
 use crate::spelling::{place_uses, put_ops};
 use crate::statement_depths::held_in;
+use p8_bytecode::RETURN;
 use p8_gen::{Coder, Jump, Kept, Line, StringUse, Tables, Writer};
 use p8_kinds::Kinds;
 use p8_tree::{Fault, List, Method, Stmt, Text};
@@ -169,7 +170,7 @@ fn written(alloc: Global, coder: &Coder<'_>, body: &[Stmt]) -> Result<Kept, Allo
     let mut out = Writer::new(alloc);
     context.body(body, &mut out)?;
     out.at_statement(coder.statement);
-    out.byte(0x32)?;
+    out.byte(RETURN)?;
     out.into_kept()
 }
 

@@ -9,6 +9,7 @@ ghost use Rattle.p8_gen.specs.Depths.{held_by_arguments, arguments_of, held_alon
 ghost use Rattle.p8_gen.specs.Scopes.{names_of};
 ghost use Rattle.p8_stmt.specs.Cutting.{cut, held_by_call, held_by_start};
 
+use p8_bytecode::LOCKNEW_RETURNS;
 use p8_gen::{BuiltForm, Coder, form_of_built};
 use p8_tree::{Call, Expr, ExprKind, Item, Target};
 
@@ -148,7 +149,7 @@ fn held_by_built(coder: &Coder<'_>, code: u8, arguments: &[Expr]) -> u16
     ensures { result ≡ cut (held_by_built (names_of coder.now) code (trees_of arguments.now)) }
 {
     match form_of_built(code, arguments.len()) {
-        BuiltForm::Word => u16::from(code != 0x29),
+        BuiltForm::Word => u16::from(code != LOCKNEW_RETURNS),
         BuiltForm::Constant => 1,
         BuiltForm::NewCog => held_by_start(coder, &arguments[0], held(coder, &arguments[1])),
         BuiltForm::ToldCog => {

@@ -8,6 +8,10 @@ ghost use Rattle.p8_gen.specs.Writing.{Stands};
 ghost use Rattle.p8_stmt.specs.Walking.{names_at, loop_at, head, first_test, pass_end, step_piece, leaving, leap, tests_of_arms, goes_to_begin, keeps_count};
 
 use crate::context::Context;
+use p8_bytecode::{
+    BRANCH, COMPARE_CASE, COMPARE_CASE_RANGE, JUMP_IF_FALSE, JUMP_IF_TRUE, LOOP_CONTINUE,
+    LOOP_START, QUIT,
+};
 use p8_gen::{Operation, Writer};
 use p8_tree::{Arm, Expr, Item, Loop, Text};
 use std::alloc::AllocError;
@@ -16,7 +20,7 @@ use std::alloc::AllocError;
 pub(crate) fn zero_jump(negated: bool) -> u8
     ensures { result ≡ zero_jump negated }
 {
-    if negated { 0x0B } else { 0x0A }
+    if negated { JUMP_IF_TRUE } else { JUMP_IF_FALSE }
 }
 
 /// Whether `NEXT` goes to where a pass begins, and not to what ends one.
@@ -65,7 +69,7 @@ impl Context<'_> {
     {
         match self.enclosing {
             None => Ok(()),
-            Some(places) => self.jump(0x04, places.next, out),
+            Some(places) => self.jump(BRANCH, places.next, out),
         }
     }
 
@@ -84,10 +88,10 @@ impl Context<'_> {
         ensures { (w : Written) → Stands out.old w → OnOk result (Stands out.new (leaving (names_at self.now) counted quit w)) }
     {
         if counted {
-            out.byte(0x14)?;
-            self.jump(0x04, quit, out)
+            out.byte(QUIT)?;
+            self.jump(BRANCH, quit, out)
         } else {
-            self.jump(0x04, quit, out)
+            self.jump(BRANCH, quit, out)
         }
     }
 
@@ -147,10 +151,10 @@ impl Context<'_> {
     {
         self.coder.value(&test.low, out)?;
         match &test.high {
-            None => self.jump(0x0D, to, out),
+            None => self.jump(COMPARE_CASE, to, out),
             Some(high) => {
                 self.coder.value(high, out)?;
-                self.jump(0x0E, to, out)
+                self.jump(COMPARE_CASE_RANGE, to, out)
             }
         }
     }
@@ -170,7 +174,7 @@ impl Context<'_> {
         ensures { (w : Written) → Stands out.old w → OnOk result (Stands out.new (leap (names_at self.now) jumps end w)) }
     {
         if jumps {
-            self.jump(0x04, end, out)
+            self.jump(BRANCH, end, out)
         } else {
             Ok(())
         }
@@ -184,7 +188,7 @@ impl Context<'_> {
             Loop::Forever => Ok(()),
             Loop::Count(count) => {
                 self.coder.value(count, out)?;
-                self.jump(0x08, end, out)
+                self.jump(LOOP_START, end, out)
             }
             Loop::Before(..) => Ok(()),
             Loop::After(..) => Ok(()),
@@ -216,9 +220,9 @@ impl Context<'_> {
         ensures { (w : Written) → Stands out.old w → OnOk result (Stands out.new (pass_end (names_at self.now) (course_of course.now) start w)) }
     {
         match course {
-            Loop::Forever => self.jump(0x04, start, out),
-            Loop::Count(_) => self.jump(0x09, start, out),
-            Loop::Before(..) => self.jump(0x04, start, out),
+            Loop::Forever => self.jump(BRANCH, start, out),
+            Loop::Count(_) => self.jump(LOOP_CONTINUE, start, out),
+            Loop::Before(..) => self.jump(BRANCH, start, out),
             Loop::After(until, test) => {
                 self.coder.value(test, out)?;
                 self.jump(zero_jump(!*until), start, out)

@@ -8,6 +8,7 @@ ghost use Rattle.p8_stmt.specs.Walking.{names_at, loop_at, leap, arm_piece, bran
 
 use crate::context::{Context, LoopPlaces};
 use crate::forms::{goes_to_begin, jumps_away, keeps_count, zero_jump};
+use p8_bytecode::{ABORT, ABORT_WITH_RETURN, BRANCH, JUMP_FROM_STACK, POP_RETURN, RETURN};
 use p8_gen::{Coder, Writer};
 use p8_tree::{Arm, Loop, Stmt, StmtKind};
 use std::alloc::AllocError;
@@ -54,8 +55,8 @@ impl Context<'_> {
             StmtKind::Repeat(course, body) => self.repeat(course, body, out),
             StmtKind::Next => self.next(out),
             StmtKind::Quit => self.quit(out),
-            StmtKind::Return(value) => self.with_value(value, 0x32, 0x33, out),
-            StmtKind::Abort(value) => self.with_value(value, 0x30, 0x31, out),
+            StmtKind::Return(value) => self.with_value(value, RETURN, POP_RETURN, out),
+            StmtKind::Abort(value) => self.with_value(value, ABORT, ABORT_WITH_RETURN, out),
         }
     }
 
@@ -184,12 +185,12 @@ impl Context<'_> {
             StmtKind::Case(value, arms, rest) => {
                 self.coder.value(value, out)?;
                 self.all_tests(first, before, arms, out)?;
-                out.byte(0x0C)?;
+                out.byte(JUMP_FROM_STACK)?;
                 match rest {
-                    None => self.jump(0x04, end, out),
+                    None => self.jump(BRANCH, end, out),
                     Some(body) => {
                         self.body(body, out)?;
-                        self.jump(0x04, end, out)
+                        self.jump(BRANCH, end, out)
                     }
                 }
             }
@@ -268,9 +269,9 @@ impl Context<'_> {
     fn case_body(&self, end: u32, arm: &Arm, out: &mut Writer) -> Result<(), AllocError>
         ensures { (w : Written) → Stands out.old w → OnOk result (Stands out.new (case_body (names_at self.now) (loop_at self.now) end (arm_of arm.now) w)) }
     {
-        out.byte(0x0C)?;
+        out.byte(JUMP_FROM_STACK)?;
         self.body(&arm.body, out)?;
-        self.jump(0x04, end, out)
+        self.jump(BRANCH, end, out)
     }
 
     // Appends a REPEAT.
