@@ -18,6 +18,7 @@ use p8_bytecode::{
 };
 use p8_kinds::NameKind;
 use p8_tree::{Expr, ExprKind, Target, Text};
+use p8_words::ADD;
 use std::alloc::AllocError;
 
 // The number of a method.
@@ -145,7 +146,7 @@ impl Writer {
         ensures { (w : Written) → Stands self.old w → OnOk result (Stands self.new (unary operator w)) }
     {
         match operator {
-            0xEC => Ok(()),
+            ADD => Ok(()),
             _ => self.byte(operator),
         }
     }

@@ -11,6 +11,7 @@ use crate::facts::FileFacts;
 use crate::hint::{Hint, Slip};
 use crate::spot::Spot;
 use p8_tree::{Expr, ExprKind, Place, Target, Text};
+use p8_words::{EQUAL, GREATER, LESS};
 use std::alloc::AllocError;
 
 /// Puts a hint, if it is told.
@@ -69,11 +70,11 @@ fn is_plain(facts: &FileFacts, expr: &Expr) -> bool
 fn put_compared(hints: &mut Vec<Hint>, place: Place, operator: u8) -> Result<(), AllocError>
     ensures { OnOk result (hints.new.items ≡ hints.old.items ++ compared place operator) }
 {
-    if operator == 0xF9 {
+    if operator == LESS {
         put_told(hints, true, place, Slip::AssignsLessInTest)
-    } else if operator == 0xFA {
+    } else if operator == GREATER {
         put_told(hints, true, place, Slip::AssignsGreaterInTest)
-    } else if operator == 0xFC {
+    } else if operator == EQUAL {
         put_told(hints, true, place, Slip::AssignsEqualInTest)
     } else {
         Ok(())

@@ -8,7 +8,7 @@ ghost use Rattle.p8_meaning.specs.Known.{longer, known_number, known_before, kno
 
 use p8_fold::{Consts, Meaning};
 use p8_tree::{Expr, ExprKind, Target, Text};
-use p8_words::{binary, unary};
+use p8_words::{ADD, binary, unary};
 
 /// Which constant trees become numbers in a copy: those whose number isn't longer, or none.
 #[derive(Clone, Copy)]
@@ -98,7 +98,7 @@ pub(crate) fn before(operator: u8, operand: Option<Known>) -> Option<Known>
 fn unary_length(operator: u8) -> u8
     ensures { result ≡ unary_length operator }
 {
-    if operator == 0xEC { 0 } else { 1 }
+    if operator == ADD { 0 } else { 1 }
 }
 
 /// An operator between what is known of its operands.

@@ -4,6 +4,7 @@ ghost use Rattle.std.specs.Prelude.{◌≡◌};
 ghost use Rattle.p8_print.specs.Tables.{word_for, operator_word, is_boolean, change_word, is_behind};
 
 use p8_lexer::{Sought, Word};
+use p8_words::{LOGICAL_AND, LOGICAL_OR};
 
 // The word of this number; no number that trees have is without one.
 pub(crate) fn word_for(sought: Sought) -> Word
@@ -23,7 +24,7 @@ pub(crate) fn operator_word(operator: u8) -> Word
 pub(crate) fn is_boolean(operator: u8) -> bool
     ensures { result ≡ is_boolean operator }
 {
-    operator == 0xF0 || operator == 0xF2
+    operator == LOGICAL_AND || operator == LOGICAL_OR
 }
 
 // A change, before its variable or after it, or an operator alone, whose effect byte is its bytecode less 0xA0.

@@ -3,6 +3,12 @@ ghost use Rattle.std.specs.Prelude.{◌≡◌, ◌<◌, ◌-◌, ◌^◌, pos, n
 ghost use Rattle.p8_words.specs.Words.{word_of, signed_value, shifted_right_signed, rotated_left, rotated_right};
 ghost use Rattle.p8_words.specs.Operators.{truth, is_below, unary_result, binary_result, is_unary, unary_value, binary_value, divides};
 
+use crate::codes::{
+    ABSOLUTE_VALUE, ADD, ARITH_SHIFT_RIGHT, BIT_AND, BIT_OR, BIT_REVERSE, BIT_XOR, COMPLEMENT,
+    DECODE, DIVIDE, ENCODE, EQUAL, GREATER, GREATER_EQUAL, LESS, LESS_EQUAL, LIMIT_MAX, LIMIT_MIN,
+    LOGICAL_AND, LOGICAL_NOT, LOGICAL_OR, MODULO, MULTIPLY, MULTIPLY_HI, NEGATE, NOT_EQUAL,
+    ROTATE_LEFT, ROTATE_RIGHT, SHIFT_LEFT, SHIFT_RIGHT, SQUARE_ROOT, SUBTRACT,
+};
 use crate::words::{
     add_wrap, decode, divide, encode, high_signed, remainder, reverse, root, signed,
 };
@@ -72,15 +78,15 @@ pub fn unary_result(operator: u8, a: u32) -> Option<u32>
 {
     let value = match operator {
         // `-`, `!`, `||`, the sign `+`
-        0xE6 => negated(a),
-        0xE7 => !a,
-        0xE9 => absolute(a),
-        0xEC => a,
+        NEGATE => negated(a),
+        COMPLEMENT => !a,
+        ABSOLUTE_VALUE => absolute(a),
+        ADD => a,
         // `>|`, `|<`, `^^`, NOT
-        0xF1 => encode(a),
-        0xF3 => decode(a),
-        0xF8 => root(a),
-        0xFF => truth(a == 0),
+        ENCODE => encode(a),
+        DECODE => decode(a),
+        SQUARE_ROOT => root(a),
+        LOGICAL_NOT => truth(a == 0),
         _ => return None,
     };
     Some(value)
@@ -95,37 +101,37 @@ pub fn binary_result(operator: u8, a: u32, b: u32) -> Option<u32>
     let n = b % 32;
     match operator {
         // `->`, `<-`, `>>`, `<<`
-        0xE0 => Some(rotated_right(a, n)),
-        0xE1 => Some(rotated_left(a, n)),
-        0xE2 => Some(a >> n),
-        0xE3 => Some(a << n),
+        ROTATE_RIGHT => Some(rotated_right(a, n)),
+        ROTATE_LEFT => Some(rotated_left(a, n)),
+        SHIFT_RIGHT => Some(a >> n),
+        SHIFT_LEFT => Some(a << n),
         // `#>`, `<#`
-        0xE4 => Some(if is_below(a, b) { b } else { a }),
-        0xE5 => Some(if is_below(b, a) { b } else { a }),
+        LIMIT_MIN => Some(if is_below(a, b) { b } else { a }),
+        LIMIT_MAX => Some(if is_below(b, a) { b } else { a }),
         // `&`, `|`, `^`, `+`, `-`
-        0xE8 => Some(a & b),
-        0xEA => Some(a | b),
-        0xEB => Some(a ^ b),
-        0xEC => Some(add_wrap(a, b)),
-        0xED => Some(difference(a, b)),
+        BIT_AND => Some(a & b),
+        BIT_OR => Some(a | b),
+        BIT_XOR => Some(a ^ b),
+        ADD => Some(add_wrap(a, b)),
+        SUBTRACT => Some(difference(a, b)),
         // `~>`, `><`
-        0xEE => Some(shifted_right_signed(a, n)),
-        0xEF => Some(reverse(a) >> ((32 - n) % 32)),
+        ARITH_SHIFT_RIGHT => Some(shifted_right_signed(a, n)),
+        BIT_REVERSE => Some(reverse(a) >> ((32 - n) % 32)),
         // AND, OR
-        0xF0 => Some(truth(a != 0 && b != 0)),
-        0xF2 => Some(truth(a != 0 || b != 0)),
+        LOGICAL_AND => Some(truth(a != 0 && b != 0)),
+        LOGICAL_OR => Some(truth(a != 0 || b != 0)),
         // `*`, `**`, `/`, `//`
-        0xF4 => Some(a.wrapping_mul(b)),
-        0xF5 => Some(high_signed(a, b)),
-        0xF6 => Some(divide(a, b)),
-        0xF7 => Some(remainder(a, b)),
+        MULTIPLY => Some(a.wrapping_mul(b)),
+        MULTIPLY_HI => Some(high_signed(a, b)),
+        DIVIDE => Some(divide(a, b)),
+        MODULO => Some(remainder(a, b)),
         // `<`, `>`, `<>`, `==`, `=<`, `=>`
-        0xF9 => Some(truth(is_below(a, b))),
-        0xFA => Some(truth(is_below(b, a))),
-        0xFB => Some(truth(a != b)),
-        0xFC => Some(truth(a == b)),
-        0xFD => Some(truth(!is_below(b, a))),
-        0xFE => Some(truth(!is_below(a, b))),
+        LESS => Some(truth(is_below(a, b))),
+        GREATER => Some(truth(is_below(b, a))),
+        NOT_EQUAL => Some(truth(a != b)),
+        EQUAL => Some(truth(a == b)),
+        LESS_EQUAL => Some(truth(!is_below(b, a))),
+        GREATER_EQUAL => Some(truth(!is_below(a, b))),
         _ => None,
     }
 }
@@ -134,7 +140,7 @@ pub fn binary_result(operator: u8, a: u32, b: u32) -> Option<u32>
 pub fn divides(operator: u8) -> bool
     ensures { result ≡ divides operator }
 {
-    operator == 0xF6 || operator == 0xF7
+    operator == DIVIDE || operator == MODULO
 }
 
 /// Whether an operator among the bytecodes has one operand; the sign `+` has no bytecode.
@@ -142,7 +148,10 @@ pub fn divides(operator: u8) -> bool
 pub fn is_unary(operator: u8) -> bool
     ensures { result ≡ is_unary operator }
 {
-    matches!(operator, 0xE6 | 0xE7 | 0xE9 | 0xF1 | 0xF3 | 0xF8 | 0xFF)
+    matches!(
+        operator,
+        NEGATE | COMPLEMENT | ABSOLUTE_VALUE | ENCODE | DECODE | SQUARE_ROOT | LOGICAL_NOT
+    )
 }
 
 /// The value of an operator with one operand, and 0 where it is none.
