@@ -17,7 +17,7 @@ use Rattle.p8_lines.specs.Lines as lines
 use Rattle.p8_lines.specs.Lines.{Row}
 use Rattle.p8_declarations.specs.DataParts.{Part, colon, effect, size, org, res, fit, jump, other, place_of, before_end}
 use Rattle.p8_declarations.specs.Lines as stages
-use Rattle.p8_declarations.specs.Lines.{local, value, before, behind, open_bracket, datum, items, all_items, bare, effects, direct, immediate, label, behind_hash, source, operands, filled, instruction, body, blank, line, maybe_line, line_of_row}
+use Rattle.p8_declarations.specs.Lines.{local, value, before, open_bracket, datum, items, all_items, bare, effects, direct, immediate, label, behind_hash, source, operands, filled, instruction, body, blank, line, maybe_line, line_of_row}
 use Rattle.p8_blocks.proofs.DataMade.{Facts, IsLabel, plain, behind_colon, IsSize, IsDatum, AreData, IsCondition, a_condition, no_condition, effects_number, IsEffects, some_effects, IsFlags, some_flags, sixteen, IsInstruction, two, on_memory, one, call, of_data, of_org, of_res, of_fit, of_instruction, IsLine, label_alone, with_contents}
 use Rattle.p8_blocks.proofs.DataMade as made
 use Rattle.p8_blocks.proofs.Closed.{is_closed}

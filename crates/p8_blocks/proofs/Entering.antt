@@ -5,7 +5,6 @@ use Rattle.std.proofs.lemmas.Bool.{false≢true}
 use Rattle.p8_tree.specs.declared.places.Place.{Place}
 use Rattle.p8_tree.specs.Sources.{MethodTree}
 use Rattle.p8_words.specs.declared.failure.Fail.{Fail}
-use Rattle.p8_words.specs.declared.failure.Fail.TheVariants as fail
 use Rattle.p8_lexer.specs.declared.word.Word.{Word}
 use Rattle.p8_tree.specs.declared.refusal.Refusal.TheVariants.{BadIndent, TooNested, LoopWord}
 use Rattle.p8_tree.specs.Refusals.{refusal_number}

@@ -3,7 +3,7 @@ use Rattle.std.proofs.Common.{◌≡◌, List, [], ◌∷◌, ◌++◌, Option, 
 use Rattle.p8_tree.specs.declared.sources.Block.{Block}
 use Rattle.p8_tree.specs.Views.{block_of}
 use Rattle.p8_tree.specs.Sources as trees
-use Rattle.p8_tree.specs.Sources.{MethodTree, Source, BlockTree}
+use Rattle.p8_tree.specs.Sources.{MethodTree}
 use Rattle.p8_tree.specs.Statements.{Statements}
 use Rattle.p8_columns.specs.Lines as lines
 use Rattle.p8_columns.specs.Blocks.{AreStatements}

@@ -19,7 +19,7 @@ use Rattle.p8_statements.specs.Statements.{kind_of_row}
 use Rattle.p8_blocks.specs.Values.{ReadsAs, begins_line}
 use Rattle.p8_lines.proofs.Readings.{leads_row}
 use Rattle.p8_blocks.specs.Reading as blocks
-use Rattle.p8_blocks.specs.Reading.{Part, constants, variables, objects, assembly, method, Position, at, start, IsHead, opens, IsTooDeep, HasNoLoop, Enters, from, begin, begun_by, is_begun, Opens, Extends, Step, Goes, stay, go_on, AreBlocks, no_blocks, con_block, var_block, obj_block, dat_block, method_block}
+use Rattle.p8_blocks.specs.Reading.{Part, method, Position, at, start, IsHead, opens, IsTooDeep, Enters, from, begin, begun_by, is_begun, Opens, Extends, Step, Goes, stay, go_on, AreBlocks, no_blocks, con_block, var_block, obj_block, dat_block, method_block}
 use Rattle.p8_blocks.specs.Files.{Heights, within_limits, is_item}
 use Rattle.p8_blocks.specs.Trees.{IsShallowBlock, IsShallow}
 use Rattle.p8_blocks.proofs.After.{After, after_first, after_rest, after_more}

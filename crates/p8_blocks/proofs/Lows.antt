@@ -9,7 +9,7 @@ use Rattle.p8_lexer.specs.Words.{symbols, reserved_words, every_word}
 use Rattle.p8_tree.specs.declared.refusal.Refusal.TheVariants as refusal
 use Rattle.p8_tree.specs.Refusals.{refusal_number}
 use Rattle.p8_grammar.specs.Lexemes as lexemes
-use Rattle.p8_grammar.specs.Lexemes.{Setting, in_method, in_declaration, in_dat, in_data_item, in_action, Mark, left_parenthesis, right_parenthesis, left_bracket, right_bracket, comma, colon, dot, dot_dot, hash, backslash, equal, Lexeme, name, method_result, mark, token}
+use Rattle.p8_grammar.specs.Lexemes.{Setting, in_method, in_declaration, in_dat, in_data_item, in_action, Lexeme, name, method_result, token}
 use Rattle.p8_grammar.specs.Grammar.{a_value, operand, nothing, a_reserved_word, result_name, IsExpression, IsFront}
 use Rattle.p8_grammar.specs.Heights as heights
 use Rattle.p8_grammar.specs.Heights.{height}
@@ -18,14 +18,14 @@ use Rattle.p8_grammar.specs.Machine.{reading, named, walk, start}
 use Rattle.p8_grammar.specs.Least.{least}
 use Rattle.p8_grammar.proofs.Tall.{too_high}
 use Rattle.p8_grammar.proofs.Live as live
-use Rattle.p8_grammar.proofs.Live.{IsEnding, AreEndings, dead, not_too_high}
+use Rattle.p8_grammar.proofs.Live.{dead, not_too_high}
 use Rattle.p8_grammar.proofs.Readings.{shows}
 use Rattle.p8_expr.specs.Words.{lexeme_of_word}
 use Rattle.p8_lexer.specs.Pieces.{Piece, tree}
 use Rattle.p8_lines.specs.declared.state.LineState.{LineState}
 use Rattle.p8_lines.specs.declared.state.LineState.TheVariants as state
 use Rattle.p8_lines.specs.Diagram.{Phrase, choices, setting_at}
-use Rattle.p8_lines.specs.Tokens.{LineToken, word, lexeme, term, terms, piece}
+use Rattle.p8_lines.specs.Tokens.{LineToken, word, lexeme, terms, piece}
 use Rattle.p8_lines.specs.Lines as lines
 use Rattle.p8_lines.specs.Lines.{Follows, is_name_word, behind, Row, over, Begins, greatest_height, Leads, nowhere, by_token, by_phrase, IsTooHigh, HasTooHigh, Reads, refused}
 use Rattle.p8_lines.proofs.Splits.{Compared, same, beyond, short, compare}

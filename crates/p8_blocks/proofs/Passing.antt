@@ -16,7 +16,7 @@ use Rattle.p8_lines.specs.declared.state.LineState.{LineState}
 use Rattle.p8_lines.specs.Diagram.{Phrase, choices, setting_at}
 use Rattle.p8_lines.specs.Tokens.{LineToken, word, terms}
 use Rattle.p8_lines.specs.Lines as line_specs
-use Rattle.p8_lines.specs.Lines.{Row, Leads, Outcome, read, Reads, refused, line, too_high, stopped, number_of, greatest_height, IsTooHigh}
+use Rattle.p8_lines.specs.Lines.{Row, Leads, Outcome, Reads, refused, line, too_high, stopped, number_of, greatest_height, IsTooHigh}
 use Rattle.p8_lines.proofs.Begun.{nothing_high}
 use Rattle.p8_lines.proofs.Rows.{leads_way, begun, way_begins, front_begins, limit_positive}
 use Rattle.p8_blocks.specs.Reading.{IsRefusedAt}

@@ -4,10 +4,9 @@ use Rattle.std.specs.Prelude.{◌≢◌, IsTrue, option_map}
 use Rattle.std.specs.List.{AllByRecursion as Each}
 use Rattle.std.proofs.lemmas.List.Elements.{All-nil, All-append, All-push, All-pop, All-from_recursion, recursion_from_All}
 use Rattle.p8_tree.specs.Sources as sources
-use Rattle.p8_tree.specs.Sources.{Constant, Declared, Child, MethodTree, BlockTree, Source}
+use Rattle.p8_tree.specs.Sources.{Constant, Declared, Child, BlockTree, Source}
 use Rattle.p8_tree.specs.Proper.{IsProperConstant, IsProperDeclared, IsProperChild, IsProperLine, IsProperBlock, IsProperFile}
 use Rattle.p8_columns.specs.Lines as lines
-use Rattle.p8_columns.specs.Lines.{Kind}
 use Rattle.p8_lexer.specs.Pieces.{Piece}
 use Rattle.p8_lexer.specs.Proper.{AreProper}
 use Rattle.p8_lines.specs.declared.state.LineState.{LineState}

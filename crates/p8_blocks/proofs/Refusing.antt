@@ -25,7 +25,7 @@ use Rattle.p8_statements.specs.Statements.{kind_of_row}
 use Rattle.p8_blocks.specs.Reading.{Part, constants, variables, objects, assembly, method, Position, at, IsHead, head_state, line_state, declares, is_begun, Entry, from, barred, Enters, goes_on, chain_over, no_chain, loop_end, no_loop, statement, item, after_other, opens, greatest_depth, HasNoLoop, leaves_loop, IsTooDeep, IsRefusedAt, Fails, head_fails, declaration_fails, entry_fails, no_loop_fails, too_deep_fails, line_fails, Parses, fails, fault}
 use Rattle.p8_blocks.specs.Files.{any_height, within_limits, is_item, IsFile, Begins, is_chain_word, is_loop_end_word, is_loop_word}
 use Rattle.p8_blocks.specs.Refusals as refusals
-use Rattle.p8_blocks.specs.Refusals.{BeginsWithinLimits, setting_behind, EndsInMethod, HasNoOpener, chain_missing, loop_missing, IsOutsideLoop, LacksOpener, LacksLoop, NumberAt, no_opener, by_word, IsRefusedThere, begun_from, line_begin, block_state, last_state, BeginsLine, behind_word, by_depth, unfit, too_nested, refused_there, IsRefused}
+use Rattle.p8_blocks.specs.Refusals.{BeginsWithinLimits, setting_behind, EndsInMethod, HasNoOpener, chain_missing, loop_missing, IsOutsideLoop, LacksOpener, LacksLoop, NumberAt, no_opener, by_word, IsRefusedThere, begun_from, line_begin, BeginsLine, behind_word, by_depth, unfit, too_nested, refused_there, IsRefused}
 use Rattle.p8_blocks.proofs.Answering.{end_begins_none}
 use Rattle.p8_blocks.proofs.After.{after_more}
 use Rattle.p8_blocks.proofs.Depths.{Shallow}

@@ -2,7 +2,7 @@
 use Rattle.std.proofs.Common.{◌≡◌, List, [], ◌∷◌, ◌++◌, Option, Some, None, Bool, true, false, refl, sym, ap, ◌∙◌, subst, append_assoc, append-nil, ◌&&◌}
 use Rattle.std.specs.Prelude.{IsTrue, if◌then◌else◌, option_map}
 use Rattle.p8_tree.specs.Sources as trees
-use Rattle.p8_tree.specs.Sources.{Constant, Declared, Child, MethodTree, BlockTree, Source}
+use Rattle.p8_tree.specs.Sources.{Constant, MethodTree, BlockTree, Source}
 use Rattle.p8_lexer.specs.declared.word.Word.{Word}
 use Rattle.p8_lexer.specs.declared.word.Word.TheVariants as word_case
 use Rattle.p8_columns.specs.Lines as lines
@@ -24,7 +24,7 @@ use Rattle.p8_declarations.specs.Lines.{line_of_row}
 use Rattle.p8_statements.specs.Statements.{kind_of_row}
 use Rattle.p8_blocks.specs.Values.{suits, begins_line}
 use Rattle.p8_blocks.specs.Reading as blocks
-use Rattle.p8_blocks.specs.Reading.{Part, constants, variables, objects, assembly, method, is_block_word, goes_on_chain, ends_loop, Enters, goes_on, loop_end, statement, item, from, HasNoLoop, leaves_loop, AreBlocks, no_blocks, con_block, var_block, obj_block, dat_block, method_block}
+use Rattle.p8_blocks.specs.Reading.{Part, constants, variables, objects, assembly, method, is_block_word, goes_on_chain, ends_loop, Enters, goes_on, loop_end, statement, item, from, leaves_loop, AreBlocks, no_blocks, con_block, var_block, obj_block, dat_block, method_block}
 use Rattle.p8_blocks.specs.Files as files
 use Rattle.p8_blocks.specs.Files.{Heights, is_item, begins_text, IsLine, lines_of_row, Declare, no_line, a_blank, a_line, AreLines, IsHead, method_word, IsBlock, first_block, IsFile, lines_in, is_chain_word, is_loop_end_word}
 use Rattle.p8_blocks.proofs.After.{After, after_first, after_rest}

@@ -1,5 +1,5 @@
 -- Which instruction of PASM asks what was announced.
-use Rattle.std.proofs.Common.{◌≡◌, refl, sym, ap, subst, ◌∙◌, arith, ℕ, suc, ◌+◌, Bool, true, false, List, Option, Some, None}
+use Rattle.std.proofs.Common.{◌≡◌, refl, sym, ap, ◌∙◌, arith, ℕ, suc, ◌+◌, Bool, true, false, List, Option, Some, None}
 use Rattle.p8_access.specs.declared.kinds.Access.{Access}
 use Rattle.p8_access.specs.declared.order.Turn.{Turn}
 use Rattle.p8_access.specs.Lives.{Begun, Loaded, PasmBegun, SpinBegun}
@@ -8,7 +8,7 @@ use Rattle.p8_cog.specs.declared.progress.Progress.{Progress}
 use Rattle.p8_cog.specs.declared.stage.PasmStage.{PasmStage}
 use Rattle.p8_cog.specs.declared.stage.PasmStage.TheVariants.{Loading, Running, Over}
 use Rattle.p8_cog.specs.Counters.{IsCounterOf, loaded_from, of_instruction, of_load}
-use Rattle.p8_cog.specs.Replay.{Outcome, Asks, Goes, after, loaded_by, replayed, step}
+use Rattle.p8_cog.specs.Replay.{Outcome, Asks, Goes, after, replayed, step}
 use Rattle.p8_cog.specs.Standing.{StandsFor, running_at, standing_at, turns_of}
 use Rattle.p8_cog.specs.Stops.{Announces, asked_now, asked_of, announced_at, is_asking}
 

@@ -15,7 +15,7 @@ use Rattle.p8_meaning.specs.Expressions as expressions
 use Rattle.p8_tree.specs.Heights.{height, height_in_variable, height_in_index, height_in_bits, height_of_trees, height_of_items, height_of_item}
 use Rattle.p8_tree.specs.Lists.{count_of_trees, tree_list}
 use Rattle.p8_compiled.specs.Standing as standing
-use Rattle.p8_compiled.specs.Standing.{Compiled, is_outa, is_dira, names_count, index_count, bits_count, at_number, index_in, pins_in, site, IsRegister, HasRegister, IsEffect, IsOperation}
+use Rattle.p8_compiled.specs.Standing.{names_count, index_count, bits_count, at_number, index_in, pins_in, site}
 use Rattle.p8_compiled.proofs.Places.{at, left_on}
 use Rattle.p8_compiled.proofs.Calling.{opened-low}
 use Rattle.p8_meaning.specs.Builtins as builtins

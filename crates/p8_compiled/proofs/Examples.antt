@@ -36,7 +36,6 @@ use Rattle.p8_compiled.specs.Courses.{gives, takes_names, takes_value, takes_two
 use Rattle.p8_compiled.specs.Standing as standing
 use Rattle.p8_compiled.specs.Standing.{Compiled, At}
 use Rattle.p8_compiled.specs.Bodies as bodies
-use Rattle.p8_compiled.specs.Bodies.{outside, plain}
 use Rattle.p8_compiled.specs.Keeps.{Placed, MethodPlaced}
 
 -- ---- the source

@@ -27,7 +27,7 @@ use Rattle.p8_compiled.specs.Courses.{takes_one, takes_two, takes_three, goes_to
 use Rattle.p8_compiled.specs.Depths as depths
 use Rattle.p8_compiled.specs.Depths.{held_by}
 use Rattle.p8_compiled.specs.Standing as standing
-use Rattle.p8_compiled.specs.Standing.{At, with_hand, site}
+use Rattle.p8_compiled.specs.Standing.{At, with_hand}
 use Rattle.p8_compiled.specs.Bodies as bodies
 use Rattle.p8_compiled.specs.Bodies.{Inner, outside, plain, with_count}
 use Rattle.p8_bcog.specs.Replay.{engine_of}

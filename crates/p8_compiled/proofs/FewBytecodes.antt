@@ -21,7 +21,7 @@ use Rattle.p8_bcog.specs.Replay.{engine_of, enters_at, first_of, lived}
 use Rattle.p8_cog.specs.Lives.{asks}
 use Rattle.p8_meaning.specs.Programs.{Program, Addresses}
 use Rattle.p8_compiled.specs.Told.{IsWorldOf}
-use Rattle.p8_compiled.proofs.Following.{Follows, going, over, StandsAt, Asker, find-asker, due-from}
+use Rattle.p8_compiled.proofs.Following.{Follows, going, over, find-asker, due-from}
 use Rattle.p8_compiled.proofs.Histories.{Runs_in, CogIs, cogs-are}
 use Rattle.p8_compiled.proofs.SpinLives.{CodeIsTold, bytecodes-paced}
 

@@ -33,7 +33,7 @@ use Rattle.p8_meaning.specs.Expressions as expressions
 use Rattle.p8_compiled.specs.Courses.{gives, takes_none, takes_one, takes_two, takes_three, place_of, leaves_if, if_used, drops, WhereSo}
 use Rattle.p8_compiled.specs.Depths as depths
 use Rattle.p8_compiled.specs.Standing as standing
-use Rattle.p8_compiled.specs.Standing.{Compiled, is_outa, is_dira, names_count, index_count, bits_count, at_number, index_in, pins_in, site, IsRegister, HasRegister, IsEffect, IsOperation}
+use Rattle.p8_compiled.specs.Standing.{Compiled, is_outa, is_dira, names_count, index_count, at_number, index_in, site, IsRegister, HasRegister, IsEffect, IsOperation}
 use Rattle.p8_bcog.specs.Replay.{engine_of}
 use Rattle.p8_compiled.proofs.Meets.{Reading, follows-halts, comes-back, goes-back}
 use Rattle.p8_compiled.proofs.Stack.{one-is}

@@ -5,7 +5,7 @@ use Rattle.p8_tree.specs.Expressions.{Tree, node, Var, Call, Assign, Change, Bui
 use Rattle.p8_tree.specs.Lists.{count_of_trees}
 use Rattle.p8_tree.specs.Statements.{Forever, Count, Before, After, From, Statement, statement, Action, Do, If, Case, Repeat, Next, Quit, Return, Abort, arm, Otherwise, nothing_else, otherwise, Statements, no_statements, ◌▹◌, Arms, no_arms, ◌⊳◌}
 use Rattle.p8_tree.specs.Proper as proper
-use Rattle.p8_tree.specs.Proper.{IsProperTree, IsProperCourse, IsProperAction, IsProperStatement, AreProperStatements, AreProperArms, AreProperChoices, AreProperTests, IsProperOtherwise, IsDone, IfThere, IsProperExpression}
+use Rattle.p8_tree.specs.Proper.{IsProperTree, IsProperAction, IsProperStatement, AreProperStatements, AreProperArms, AreProperChoices, AreProperTests, IsProperOtherwise, IsDone, IfThere, IsProperExpression}
 use Rattle.p8_tree.specs.Nesting.{leave_loops, leaves_loop, action_leaves, arms_leave, other_leaves}
 use Rattle.p8_tree.specs.declared.faults.Fault.{Fault}
 use Rattle.p8_kinds.specs.Misuses.{MisuseDone, name_alone, MisuseInOption, MisuseInItems, MisuseInStatements, MisuseInStatement, MisuseInAction, MisuseInArms, MisuseInOtherwise}

@@ -7,7 +7,7 @@ use Rattle.p8_tree.specs.Names.{result_word}
 use Rattle.p8_tree.specs.Expressions.{Tree, node, Form, Number, Str, Strings, Here, Var, Call, Unary, Binary, Assign, Change, Address, ObjectAddress, ObjConst, Built, Look, Variable, Named, Part, Memory, Register, Index, no_index, index, Bits, whole, bits, single, range, Trees, no_trees, ◌▷◌, Items, no_items, ◌▸◌}
 use Rattle.p8_tree.specs.Lists.{count_of_trees}
 use Rattle.p8_tree.specs.Proper as proper
-use Rattle.p8_tree.specs.Proper.{IsProperTree, IsProperForm, IsProperVariable, IsProperIndex, AreProperBits, IsProperItem, AreProperTrees, AreProperItems, IfThere}
+use Rattle.p8_tree.specs.Proper.{IsProperTree, IsProperForm, IsProperVariable, IsProperIndex, AreProperBits, AreProperTrees, AreProperItems}
 use Rattle.p8_tree.specs.declared.faults.Fault.{Fault}
 use Rattle.p8_tree.specs.Faults.{fault}
 use Rattle.p8_tree.specs.declared.refusal.Refusal.TheVariants.{WrongArity}
@@ -30,7 +30,7 @@ use Rattle.p8_gen.specs.Expressions.{value, value_of_form, operate, values, inde
 use Rattle.p8_gen.proofs.Widths.{both as alike-both, bytes, value-alike, counts-alike, looks-alike}
 use Rattle.p8_compiled.specs.Courses.{gives, takes_one, takes_two, WhereSo}
 use Rattle.p8_compiled.specs.Standing as rows_of
-use Rattle.p8_compiled.specs.Standing.{Compiled, At, ReadAt, NamesAt, IndexAt, BitsAt, ValueAt, VariableAt, ValuesAt, LooksAt, BuiltAt, BeginsAt, BeginsNameAt, PasmAt, StartAt, Alone, OneAt, TwoAt, ThreeAt, OwnCallAt, ObjectCallAt, KindAt, NameAt, Fits, ObjectOpAt, IsRegister, is_par, is_cnt, is_ina, is_outa, is_dira, HasRegister, Kept}
+use Rattle.p8_compiled.specs.Standing.{Compiled, At, ReadAt, NamesAt, IndexAt, BitsAt, ValueAt, VariableAt, ValuesAt, LooksAt, BuiltAt, BeginsAt, BeginsNameAt, PasmAt, StartAt, Alone, OneAt, TwoAt, ThreeAt, OwnCallAt, ObjectCallAt, KindAt, NameAt, Fits, ObjectOpAt, IsRegister, is_par, is_cnt, is_ina, is_outa, is_dira, HasRegister}
 use Rattle.p8_compiled.specs.Agreeing.{Agrees, environment}
 use Rattle.p8_compiled.proofs.Standing.{Stand, nothings, both, three, four, so, up}
 use Rattle.p8_compiled.proofs.Choices.{each}

@@ -20,7 +20,7 @@ use Rattle.p8_constants.specs.declared.rows.Move.TheVariants.{Sets, Stays, Count
 use Rattle.p8_constants.specs.Items.{Term, Sum, value_term, step_term, zero_sum, sum_of, definition, definitions}
 use Rattle.p8_constants.specs.Mentions.{Mentions, mentioned}
 use Rattle.p8_constants.specs.Constants as constants
-use Rattle.p8_constants.specs.Constants.{Scope, scope_of, Means, from_outside, nothing, circular, constant, IsRightFor, right, Adds, further, Has, has, counted, IsConstant, IsConstantFault}
+use Rattle.p8_constants.specs.Constants.{Scope, scope_of, Means, from_outside, nothing, circular, constant, IsRightFor, right, Adds, further, Has, has, counted}
 use Rattle.p8_constants.specs.Rows.{Row, rows_of, expression_at, row_at, counter_at, move_of, first_named, unless_given, constant_at, node_of, nodes_behind, IsPlan, meaning_in, moved, counter_value, IsPrepared, with_first, Joins, clean, refused, IsValue, IsBefore, IsFaultBefore, IsEvaluated}
 use Rattle.p8_constants.proofs.Standing.{standing}
 use Rattle.p8_constants.proofs.OneValue.{right_one}

@@ -10,7 +10,7 @@ use Rattle.p8_tree.specs.declared.sources.ConItem.{ConItem}
 use Rattle.p8_tree.specs.declared.sources.Block.{Block}
 use Rattle.p8_tree.specs.Views.{constant_of, block_of}
 use Rattle.p8_tree.specs.Sources as sources
-use Rattle.p8_tree.specs.Sources.{Constant, Source, Con, BlockTree}
+use Rattle.p8_tree.specs.Sources.{Constant, Source, Con}
 use Rattle.p8_constants.specs.Rows.{Row, rows_in, rows_of, row_from, rows_from, row_at, no_row, or_else, first_named, is_named, unless_given, given_here, named_here, constant_at}
 use Rattle.p8_fold.specs.declared.meanings.Meaning.{Meaning}
 use Rattle.p8_fold.specs.Meanings.{Setting}

@@ -2,7 +2,7 @@
 -- that the language defines; the names of a method's parameters, result and locals are its own. Sources: the Propeller Manual
 -- v1.2, "Block Designators", "Constants (pre-defined)" and "Symbol Rules" of the Spin chapter; that a method's own names may
 -- not repeat one of the file is this project's profile.
-use Rattle.std.specs.Prelude.{ℕ, Bool, false, ◌==◌, if◌then◌else◌, List, [], ◌∷◌, ◌++◌, map, Option, Some, None, codes}
+use Rattle.std.specs.Prelude.{ℕ, ◌==◌, if◌then◌else◌, List, [], ◌∷◌, ◌++◌, map, Option, Some, None, codes}
 use Rattle.p8_tree.specs.declared.places.Place.{Place}
 use Rattle.p8_tree.specs.Sources.{Declared, MethodTree}
 use Rattle.p8_tree.specs.Names.{is_local}

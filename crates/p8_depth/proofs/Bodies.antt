@@ -18,7 +18,7 @@ use Rattle.p8_gen.specs.Statements.{Loop, SameLoop, goes_on, leaves, with_value,
 use Rattle.p8_gen.specs.Depths.{held, held_if, held_by_test}
 use Rattle.p8_gen.proofs.Widths.{Alike, body-alike, chain-alike, test-alike}
 use Rattle.p8_gen.proofs.Widths as widths
-use Rattle.p8_depth.specs.Stack.{Stack, holds, column, Works, Jumps, Goes, Ends}
+use Rattle.p8_depth.specs.Stack.{Stack, holds, column, Jumps, Goes, Ends}
 use Rattle.p8_depth.specs.Stack as stack
 use Rattle.p8_depth.specs.Entries.{leap, behind_arms, entries, entries_inside, entries_of_arms}
 use Rattle.p8_depth.proofs.Along as along

@@ -14,7 +14,7 @@ use Rattle.p8_gen.specs.Pieces.{Written, empty, Piece, nothing, ◌⨾◌, jump}
 use Rattle.p8_gen.specs.Statements.{Loop, SameLoop, code_of, body, chain, other_body}
 use Rattle.p8_gen.specs.Methods.{bytes_of, method_code}
 use Rattle.p8_gen.specs.Depths.{held_in, held_in_action, held_in_arms, held_in_other}
-use Rattle.p8_gen.proofs.Widths.{Alike, body-alike}
+use Rattle.p8_gen.proofs.Widths.{body-alike}
 use Rattle.p8_gen.proofs.Widths as widths
 use Rattle.p8_stmt.proofs.Choices.{method-measured}
 use Rattle.p8_depth.specs.Stack.{Stack, holds, column, Ends}

@@ -5,7 +5,7 @@ use Rattle.p8_tree.specs.declared.places.Place.{Place}
 use Rattle.p8_tree.specs.Expressions.{Tree, node, Form, Number, Str, Strings, Here, Var, Call, Unary, Binary, Assign, Change, Address, ObjectAddress, ObjConst, Built, Look, Variable, Named, Part, Memory, Register, Index, no_index, index, whole, bits, single, range, Trees, no_trees, ◌▷◌, Items, no_items, ◌▸◌}
 use Rattle.p8_tree.specs.Lists.{tree_list, count_of_trees}
 use Rattle.p8_tree.specs.Proper as proper
-use Rattle.p8_tree.specs.Proper.{IfThere, is_binary, is_change, is_operator_alone, gives_value, gives_no_value, arguments_fit, arguments_fit_alone, IsProperTree, IsProperForm, IsProperVariable, IsProperIndex, AreProperTrees, AreProperItems, AreProperBits, IsDoneForm, IsDone}
+use Rattle.p8_tree.specs.Proper.{IfThere, is_binary, is_change, is_operator_alone, gives_value, gives_no_value, arguments_fit, arguments_fit_alone, IsProperTree, IsProperForm, IsProperVariable, IsProperIndex, AreProperTrees, AreProperItems, IsDoneForm, IsDone}
 use Rattle.p8_tree.specs.declared.faults.Fault.{Fault}
 use Rattle.p8_tree.specs.Faults.{fault}
 use Rattle.p8_tree.specs.declared.refusal.Refusal.TheVariants.{Unknown, WrongKind, WrongArity}
@@ -22,14 +22,14 @@ use Rattle.p8_kinds.specs.Environments.{Environment, kind_in}
 use Rattle.p8_kinds.specs.Misuses.{misuse, misuse_behind, misuse_of_call, misuse_of_arguments, in_method, BrokenIn, BrokenInside, BrokenInVariable, BrokenInIndex, BrokenInTrees, BrokenInItems, name_alone, MisuseDone}
 use Rattle.p8_gen.specs.Names.{Names}
 use Rattle.p8_gen.specs.Pieces.{Piece, nothing, one, ◌⨾◌, byte, with_number}
-use Rattle.p8_gen.specs.Variables.{number, Home, Base, Pushed, OfFrame, home_of, home_of_kind, Operation, Push, Pop, Using, Reference, plain_op, memory_op, leaving, effect_for, assigned}
+use Rattle.p8_gen.specs.Variables.{number, Home, Base, Pushed, OfFrame, home_of, home_of_kind, Operation, Push, Using, Reference, plain_op, effect_for, assigned}
 use Rattle.p8_gen.specs.Variables as variables
 use Rattle.p8_gen.specs.Expressions.{count_of, mark, own_method, method_number, method_in, callee, constant, name_alone as code_of_name, built_value, built, dropped, built_without, starts_method, is_method, starts, pasm, started, looks_down, counts_from, sized, pushed_home, size_of, value, value_of_form, operate, in_home, values, index_value, call_of_built, arguments, looks, alone}
 use Rattle.p8_gen.specs.Depths.{over, arguments_of, held, held_by, held_by_naming, held_by_index, held_by_trees, held_by_items, held_by_built, held_by_arguments, held_alone}
 use Rattle.p8_gen.proofs.ByteTables.{equal, one_of}
 use Rattle.p8_gen.proofs.Widths.{value-alike, looks-alike, counts-alike}
 use Rattle.p8_gen.proofs.Widths as widths
-use Rattle.p8_depth.specs.Stack.{Column, Opens, Calls, Works, Jumps, Goes, Ends, column}
+use Rattle.p8_depth.specs.Stack.{Opens, Calls, Works, Jumps, column}
 use Rattle.p8_depth.specs.Stack as stack
 use Rattle.p8_depth.proofs.Along as along
 use Rattle.p8_depth.proofs.Along.{Whole, left_by}

@@ -10,7 +10,7 @@ use Rattle.p8_desk.specs.declared.rule.Known.{Known}
 use Rattle.p8_desk.specs.declared.turned.Turned.{Turned}
 use Rattle.p8_desk.specs.declared.turned.Turned.TheVariants.{Done, Held, After, Ahead, Over}
 use Rattle.p8_desk.specs.Gathering.{left_to_do, next_cog, RidesIn, Riding, HasRode}
-use Rattle.p8_desk.specs.Rules.{Hand, known, of_same_cog, with_seen, seizing, releasing, seen_as, seeing}
+use Rattle.p8_desk.specs.Rules.{Hand, known, of_same_cog, with_seen, seizing, seen_as}
 use Rattle.p8_desk.specs.Seats.{Keeps, Rode, TookDesk, pass_in, or_new, Carries, is_over}
 use Rattle.p8_desk.specs.Tries.{Answers, seen_by}
 use Rattle.p8_desk.proofs.Carrying.{carries-found, carries-beside, gone-on, named-near, others-spoken}

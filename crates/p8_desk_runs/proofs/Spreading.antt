@@ -1,5 +1,5 @@
 -- Passes go to places outside their set, and back.
-use Rattle.std.proofs.Common.{◌≡◌, ◌∙◌, ap, sym, subst, refl, ℕ, zero, suc, ◌<◌, List, [], ◌∷◌, Option, Some, None, length, arith}
+use Rattle.std.proofs.Common.{◌≡◌, ◌∙◌, ap, sym, subst, refl, ℕ, zero, suc, ◌<◌, List, [], ◌∷◌, Option, Some, None, length}
 use Rattle.std.specs.Prelude.{slice_get, slice_index_or, All}
 use Rattle.p8_desk.specs.PassSets.{AllThere}
 use Rattle.p8_desk.specs.Passes.{DeskValue, PassValue, Owns}

@@ -22,7 +22,7 @@ use Rattle.p8_kinds.specs.Environments.{Environment, kind_in}
 use Rattle.p8_kinds.specs.Misuses.{misuse, in_method, BrokenIn, BrokenInside, BrokenInVariable, BrokenInIndex, BrokenInTrees, BrokenInItems, name_alone, MisuseDone}
 use Rattle.p8_gen.specs.Names.{Names}
 use Rattle.p8_gen.specs.Pieces.{◌⨾◌, byte, with_number, jump}
-use Rattle.p8_gen.specs.Variables.{number, Home, Base, Pushed, home_of, home_of_kind, Operation, Push, Pop, Using, plain_op, memory_op, leaving, effect_for, assigned}
+use Rattle.p8_gen.specs.Variables.{number, Home, home_of, home_of_kind, Operation, Push, Using, leaving, effect_for, assigned}
 use Rattle.p8_gen.specs.Variables as variables
 use Rattle.p8_gen.specs.Expressions.{count_of, mark, own_method, method_number, call_in, method_in, callee, constant, name_alone as code_of_name, built_value, built, dropped, built_without, starts_method, start_of_method, starts, pasm, started, looks_down, counts_from, unary, sized, pushed_home, size_of, value, value_of_form, operate, in_home, values, index_value, call_of_built, arguments, looks, alone}
 use Rattle.p8_gen.specs.Operations.{HasBytes, HaveBytes}

@@ -7,7 +7,7 @@ use Rattle.p8_tree.specs.declared.expressions.Expr.{Expr}
 use Rattle.p8_tree.specs.declared.expressions.Item.{Item}
 use Rattle.p8_tree.specs.declared.expressions.Call.{roll-Call}
 use Rattle.p8_tree.specs.declared.expressions.ExprKind.TheVariants as kind_case
-use Rattle.p8_tree.specs.Expressions.{Tree, node, Trees, ◌▷◌, Items, ◌▸◌, Index, Call, Built, Look}
+use Rattle.p8_tree.specs.Expressions.{Tree, node, Trees, ◌▷◌, ◌▸◌, Index, Call, Built, Look}
 use Rattle.p8_tree.specs.Expressions as trees
 use Rattle.p8_tree.specs.Views.{form_of, tree_of, trees_of, items_of, item_of}
 use Rattle.p8_tree.specs.Bridges.{trees_of-push, items_of-push, strings_is, built_is, look_is, call_is, boxed_index}

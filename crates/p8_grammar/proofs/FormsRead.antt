@@ -5,7 +5,7 @@ use Rattle.p8_tree.specs.declared.places.Place.{Place}
 use Rattle.p8_tree.specs.Expressions.{Tree, node, Str, Strings, Number, Here, ObjConst, Built, Look, Change, Call, Variable, Named, Part, Memory, Register, no_index, index, bits, single, range, Trees, no_trees, ◌▷◌, Items, no_items, ◌▸◌}
 use Rattle.p8_grammar.specs.Lexemes.{Setting, is_value, string, string_word, constant_word, look, hash, allows_index, is_dat, Access, memory, is_written, has_bits, is_in, left_parenthesis, right_parenthesis, left_bracket, right_bracket, comma, colon, dot, dot_dot, backslash, Lexeme, prefix_word, sign, object_address, name, method_result, mark, changes, size, register, reserved, name_in}
 use Rattle.p8_grammar.specs.Grammar.{Piece, word, upto, unquoted, Row, begin, ◌▹◌, Names, plain_name, result_word, local_label, Variables, named, indexed, part, part_indexed, memory_at, memory_indexed, register_whole, register_bit, register_bits, Head, calls, built, applied, Heads, trapped, of_object, of_element, of_built_in, of_command, Arguments, no_arguments, argument, with_characters, Choices, no_choices, value_choice, range_choice, text_choice, Texts, first_text, first_value, next_text, next_value, Forms, a_number, a_character, the_place, parentheses, variable, name_alone, changed_by, changed_before, changed_after, address_of, plain_call, bare_call, full_call, object_constant, a_value, a_string, one_item, items_text, items_value, a_constant, look_value, look_range, look_text, Prefix, at_object, prefix_of, effect_of}
-use Rattle.p8_grammar.specs.Machine.{Use, reading, addressing, changing, used, takes, Shape, using, indexed_name, dotted, coloned, sized, parted, memory_word, register_word, ready, trapped_name, trapped_element, object_dot, headed, hashed, string_begun, string_opened, string_read, strings_read, constant_begun, look_begun, choices_read, done, Hole, parenthesis, first_item, next_item, constant_of, look_for, argument_of, choice_of, choice_to, name_index, part_index, memory_address, memory_index, first_bit, last_bit, Next, stays, opens, only_if, tree, if_value, if_action, is_plain, unless, acting, whole_in, altering, if_reading, target, grow, close, on_item, named_element, fresh, on_parenthesis, changed}
+use Rattle.p8_grammar.specs.Machine.{Use, reading, addressing, changing, used, takes, Shape, using, indexed_name, dotted, coloned, sized, parted, memory_word, register_word, ready, trapped_name, trapped_element, object_dot, headed, hashed, string_begun, string_opened, string_read, strings_read, constant_begun, look_begun, choices_read, done, parenthesis, first_item, next_item, constant_of, look_for, argument_of, choice_of, choice_to, name_index, part_index, memory_address, memory_index, first_bit, last_bit, Next, stays, opens, tree, if_value, if_action, is_plain, unless, acting, whole_in, altering, if_reading, target, grow, close, on_item, named_element, fresh, on_parenthesis, changed}
 use Rattle.p8_grammar.specs.Machine as machine
 use Rattle.p8_grammar.proofs.Walks.{only, both}
 

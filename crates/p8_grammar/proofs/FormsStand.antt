@@ -6,7 +6,7 @@ use Rattle.p8_tree.specs.Expressions.{Tree, node, Number, Str, Here, Built, Vari
 use Rattle.p8_grammar.specs.Lexemes.{Setting, in_method, in_declaration, in_dat, in_data_item, in_action, is_value, inside, behind, allows_index, is_dat, Access, memory, pins, input_pins, input, assembly, is_written, has_bits, is_in, Mark, left_parenthesis, right_parenthesis, left_bracket, right_bracket, comma, colon, dot, dot_dot, hash, backslash, equal, Lexeme, number, name, method_result, string, mark, prefix_word, infix_word, sign, assigns, changes, address, object_address, size, register, here, string_word, constant_word, look, value, built_in, command, other, reserved, is_free, token, Token}
 use Rattle.p8_grammar.specs.Grammar.{word, upto, unquoted, Row, begin, ◌▹◌, Names, plain_name, result_word, local_label, Variables, named, indexed, part, part_indexed, memory_at, memory_indexed, register_whole, register_bit, register_bits, Head, calls, built, applied, Heads, trapped, of_object, of_element, of_built_in, of_command, Arguments, no_arguments, argument, with_characters, Choices, no_choices, value_choice, range_choice, text_choice, Texts, first_text, first_value, next_text, next_value, Forms, a_number, a_character, the_place, parentheses, variable, name_alone, changed_by, changed_before, changed_after, address_of, plain_call, bare_call, full_call, object_constant, a_value, a_string, one_item, items_text, items_value, a_constant, look_value, look_range, look_text, Prefix, prefix_of, effect_of, unary, Spells, a_word, a_reserved_word}
 use Rattle.p8_grammar.specs.Machine as machine
-use Rattle.p8_grammar.specs.Machine.{Use, reading, addressing, changing, used, takes, Shape, using, coloned, sized, indexed_name, dotted, parted, memory_word, register_word, ready, trapping, trapped_name, trapped_element, object_dot, headed, hashed, string_begun, string_opened, string_read, strings_read, constant_begun, look_begun, choices_read, done, Hole, parenthesis, name_index, part_index, memory_address, memory_index, first_bit, last_bit, trapped_index, argument_of, first_item, next_item, constant_of, look_for, choice_of, choice_to, Next, stays, opens, only_if, tree, if_value, if_action, if_reading, target, is_plain as is_name_alone, unless, acting, whole_in, altering, at_fresh, begins, on_name, on_result, on_character, on_text, on_string, on_size, on_register, changed, on_change, on_parenthesis, on_bracket, on_dot, on_hash, on_colon, on_close, on_comma, on_mark, grow, on_item, at_right_bracket, at_right_parenthesis, at_comma, at_colon, at_range, close, labelled}
+use Rattle.p8_grammar.specs.Machine.{Use, reading, addressing, changing, used, takes, Shape, using, coloned, sized, indexed_name, dotted, parted, memory_word, register_word, ready, trapping, trapped_name, trapped_element, object_dot, headed, hashed, string_begun, string_opened, string_read, strings_read, constant_begun, look_begun, choices_read, done, Hole, parenthesis, name_index, part_index, memory_address, memory_index, first_bit, last_bit, trapped_index, argument_of, first_item, next_item, constant_of, look_for, choice_of, choice_to, Next, stays, opens, only_if, tree, if_value, if_action, if_reading, target, unless, acting, whole_in, altering, begins, on_name, on_result, on_character, on_string, on_size, on_register, changed, on_change, on_parenthesis, on_bracket, on_dot, on_hash, on_colon, on_close, on_comma, on_mark, grow, on_item, at_right_bracket, at_right_parenthesis, at_comma, at_colon, at_range, close, labelled}
 
 -- what stands before a variable
 pub data UseRow (s : Setting) : Use → Row → Type 0 where

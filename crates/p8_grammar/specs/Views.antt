@@ -3,11 +3,10 @@ use Rattle.std.specs.Prelude.{◌≡◌, Option, Some, None}
 use Rattle.p8_tree.specs.Expressions.{Tree, Trees, Items, Index, no_index, index, Variable}
 use Rattle.p8_tree.specs.Views.{tree_of, trees_of, items_of, variable_of}
 use Rattle.p8_grammar.specs.Lexemes as lexemes
-use Rattle.p8_grammar.specs.Lexemes.{Token, token}
 use Rattle.p8_grammar.specs.Grammar as grammar
 use Rattle.p8_grammar.specs.Grammar.{Head, Prefix}
 use Rattle.p8_grammar.specs.Machine as machine
-use Rattle.p8_grammar.specs.Machine.{Next, stays, opens, State, state}
+use Rattle.p8_grammar.specs.Machine.{Next, stays, opens}
 use Rattle.p8_grammar.specs.declared.lexemes.Setting as setting
 use Rattle.p8_grammar.specs.declared.lexemes.Setting.TheVariants as setting_case
 use Rattle.p8_grammar.specs.declared.lexemes.Access as access

@@ -1,11 +1,10 @@
 -- The texts that were made are those of the compiled files.
-use Rattle.std.proofs.Common.{◌≡◌, ◌∙◌, ℕ, suc, ◌<◌, List, [], ◌∷◌, length, map, slice_get, Some, refl, ap, sym, arith}
+use Rattle.std.proofs.Common.{◌≡◌, ◌∙◌, ℕ, suc, ◌<◌, List, [], ◌∷◌, length, slice_get, Some, refl, ap, sym, arith}
 use Rattle.std.proofs.lemmas.List.{length-map}
 use Rattle.std.proofs.lemmas.Option.{slice_get_within, slice_get-map}
 use Rattle.std.specs.Prelude.{option_map}
 use Rattle.p8_tree.specs.Projects.{NamedSource}
 use Rattle.p8_tree.specs.Views.{method_of}
-use Rattle.p8_fold.specs.ConstantEntries.{setting_of}
 use Rattle.p8_kinds.specs.FileSettings.{file_setting}
 use Rattle.p8_fold.specs.Meanings.{Setting}
 use Rattle.p8_kinds.specs.declared.children.Children.{Children}
@@ -20,7 +19,7 @@ use Rattle.p8_build.specs.Builds.{IsFile}
 use Rattle.p8_build.proofs.Lists.{element, one_element, of_map}
 use Rattle.p8_hint.specs.Hints.{file_text, joined, or_nothing, text_with_facts, texts_of}
 use Rattle.p8_hint.specs.Projects.{IsHintsOf}
-use Rattle.p8_hint.specs.Accepting.{AreReady, IsReady, text_by, IsTextAt, AreTextsBy}
+use Rattle.p8_hint.specs.Accepting.{AreReady, text_by, IsTextAt, AreTextsBy}
 
 -- the text of the file at a place
 pub text-here : (sources : List (List ℕ)) (files : List NamedSource) (accepted : List AcceptedFile) (i : ℕ) (b : List ℕ) (f : NamedSource) (x : AcceptedFile) (text : List ℕ)

@@ -9,7 +9,7 @@ use Rattle.p8_tree.specs.declared.statements.Arm.{out-Arm, roll-out-Arm}
 use Rattle.p8_tree.specs.declared.statements.StmtKind as stmt_kind
 use Rattle.p8_tree.specs.declared.statements.StmtKind.TheVariants as stmt_case
 use Rattle.p8_tree.specs.declared.statements.Loop as loop
-use Rattle.p8_tree.specs.Views.{items_of, course_of, action_of, statement_of, statements_of, arm_of, arms_of}
+use Rattle.p8_tree.specs.Views.{course_of, action_of, statement_of, statements_of, arm_of, arms_of}
 use Rattle.p8_tree.specs.Bridges.{statements_of-push, arms_of-push, arm_list_of, statement_list_of, other_body, arm_is, if_is, case_is, repeat_is}
 use Rattle.p8_hint.specs.Spots.{action_quits, arm_quits, arms_quit, counts, has_no_body, is_bare, is_empty, is_endless, is_forever, is_lone_and_bare, quit, quits, rest_quits}
 

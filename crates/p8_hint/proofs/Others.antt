@@ -1,13 +1,11 @@
 -- Forms of which a rule says nothing.
-use Rattle.std.proofs.Common.{◌≡◌, ℕ, false, List, [], Option, None, refl, ap, sym, ◌∙◌}
+use Rattle.std.proofs.Common.{◌≡◌, ℕ, false, List, [], None, refl, ◌∙◌}
 use Rattle.p8_tree.specs.declared.places.Place.{Place}
 use Rattle.p8_tree.specs.declared.expressions.ExprKind as kind
-use Rattle.p8_tree.specs.declared.expressions.ExprKind.TheVariants as kind_case
 use Rattle.p8_tree.specs.declared.expressions.Target.{Target}
 use Rattle.p8_tree.specs.declared.expressions.Call as call
 use Rattle.p8_tree.specs.Expressions.{node}
 use Rattle.p8_tree.specs.Views.{form_of, call_of}
-use Rattle.p8_hint.specs.declared.hint.Hint.{Hint}
 use Rattle.p8_hint.specs.Rules.{Facts, begun_name, in_port, in_test, is_plain, of_source, of_stack}
 
 pub port_other : (p : Place) (k : kind.ExprKind) → ((n : ℕ) → k ≡ kind.Number n → ⊥) → [] ≡ in_port (node p (form_of k))

@@ -1,15 +1,15 @@
 -- The rules: what is accepted and is most likely a slip of the pen, and what isn't told because it may be meant (this project's profile; what the lines do is
 -- from the Propeller Manual v1.2).
-use Rattle.std.specs.Prelude.{ℕ, zero, suc, ◌*◌, ◌-◌, nat_lt, Bool, true, false, ◌==◌, ◌&&◌, ◌||◌, not, List, [], ◌∷◌, ◌++◌, length, drop, codes}
+use Rattle.std.specs.Prelude.{ℕ, ◌*◌, ◌-◌, nat_lt, Bool, true, false, ◌==◌, ◌&&◌, ◌||◌, not, List, [], ◌∷◌, ◌++◌, length, drop, codes}
 use Rattle.std.specs.Prelude.{Option, Some, None, is_some, if◌then◌else◌}
 use Rattle.std.specs.List.{flat_map}
 use Rattle.std.specs.Str.{bytes_eq}
 use Rattle.p8_tree.specs.declared.places.Place.{Place}
 use Rattle.p8_tree.specs.Names.{result_word}
-use Rattle.p8_tree.specs.Expressions.{Tree, node, Form, Number, Str, Here, Var, Call, Unary, Binary, Assign, Change, Address, ObjectAddress}
-use Rattle.p8_tree.specs.Expressions.{ObjConst, Built, Look, Variable, Named, Part, Memory, Register, no_index, index}
+use Rattle.p8_tree.specs.Expressions.{Tree, node, Number, Var, Call, Assign, Address}
+use Rattle.p8_tree.specs.Expressions.{ObjConst, Variable, Named, no_index}
 use Rattle.p8_tree.specs.Sources as trees
-use Rattle.p8_tree.specs.Sources.{Contents, Declared, Instruction, Line, MethodTree}
+use Rattle.p8_tree.specs.Sources.{Contents, Declared, MethodTree}
 use Rattle.p8_constants.specs.FileItems.{Item, variable, method, line}
 use Rattle.p8_hint.specs.declared.hint.Hint.{Hint}
 use Rattle.p8_hint.specs.declared.hint.Slip.{Slip}

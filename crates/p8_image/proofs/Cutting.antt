@@ -2,7 +2,7 @@
 use Rattle.std.proofs.Common.{◌≡◌, ◌∙◌, ap, ap₂, sym, refl, arith, ℕ, zero, suc, ◌+◌, ◌-◌, ◌<◌, ◌≤◌, List, [], ◌∷◌, ◌++◌, Option, Some, None, length, length-append, append_assoc, take, drop}
 use Rattle.std.proofs.lemmas.List.{append-nil, length-drop, length-set, length-take-le}
 use Rattle.std.proofs.Math.Seq.{take-append_seam, drop-append_seam}
-use Rattle.std.specs.Prelude.{◌/◌, ◌%◌, min, option_map, slice_index, slice_set}
+use Rattle.std.specs.Prelude.{◌/◌, ◌%◌, option_map, slice_index, slice_set}
 use Rattle.std.specs.Option.{option_map_or}
 use Rattle.p8_bytecode.specs.Reading.{coded}
 use Rattle.p8_bytecode.specs.Table.{operands_of}

@@ -6,7 +6,6 @@ use Rattle.std.proofs.lemmas.Option.{none-some, same_Some, slice_get-map, slice_
 use Rattle.p8_tree.specs.Projects.{NamedSource}
 use Rattle.p8_tree.specs.Proper.{IsProperFile}
 use Rattle.p8_tree.specs.Sources.{Line, Source}
-use Rattle.p8_lexer.specs.Spelling.{text_in}
 use Rattle.p8_fold.specs.Meanings.{Setting}
 use Rattle.p8_kinds.specs.declared.children.Children.{Children}
 use Rattle.p8_kinds.specs.declared.name_kinds.Label.{Label}
@@ -19,10 +18,9 @@ use Rattle.p8_dat.specs.Lines.{begin_of}
 use Rattle.p8_dat.specs.Names.{regions}
 use Rattle.p8_dat.specs.Spots.{limit, begun, behind, placed}
 use Rattle.p8_image.specs.declared.parts.ObjectPart.{ObjectPart}
-use Rattle.p8_image.specs.Layout.{total, codes_offset, dat_offset, size_of, header_by}
+use Rattle.p8_image.specs.Layout.{total, codes_offset, dat_offset, size_of}
 use Rattle.p8_image.specs.Listing.{address_after}
 use Rattle.p8_image.specs.Places.{base_of}
-use Rattle.p8_image.specs.Projects.{FitsHub}
 use Rattle.p8_build.specs.Parts.{AreProper, strings_of, data_start}
 use Rattle.p8_build.specs.Files.{CompiledFile, line_begins, object_of, setting_of}
 use Rattle.p8_build.specs.Builds.{AreCompiled, objects_from, objects_of}

@@ -1,5 +1,5 @@
 -- The rows and the legend that were made are those of the accepted project.
-use Rattle.std.proofs.Common.{◌≡◌, ◌∙◌, refl, sym, ap, ap₂, ℕ, zero, suc, List, [], ◌∷◌, map, length, slice_get, Some, arith}
+use Rattle.std.proofs.Common.{◌≡◌, ◌∙◌, refl, sym, ap, ap₂, ℕ, suc, List, [], ◌∷◌, map, length, slice_get, Some, arith}
 use Rattle.std.proofs.lemmas.List.{length-map}
 use Rattle.std.specs.Prelude.{Result, Ok, Err, IfOk}
 use Rattle.p8_tree.specs.Projects.{NamedSource}
@@ -14,7 +14,7 @@ use Rattle.p8_build.specs.Accepted.{IsAccepted, compiled_file, compiled_files}
 use Rattle.p8_kinds.specs.declared.children.Children.{Children}
 use Rattle.p8_kinds.specs.FileSettings.{file_setting}
 use Rattle.p8_dat.specs.declared.assembling.LineBegin.{LineBegin}
-use Rattle.p8_build.specs.Files.{CompiledFile, line_begins}
+use Rattle.p8_build.specs.Files.{line_begins}
 use Rattle.p8_build.specs.Builds.{IsFile, objects_of}
 use Rattle.p8_map.specs.declared.names.FileNames.{FileNames}
 use Rattle.p8_map.specs.Projects.{names_of}

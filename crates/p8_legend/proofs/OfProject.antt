@@ -7,7 +7,7 @@ use Rattle.std.proofs.lemmas.Bool.Decides.{nat_tests}
 use Rattle.std.proofs.lemmas.Slice.Eq.{bytes_eq-Decides}
 use Rattle.std.proofs.lemmas.List.Elements.{All-cons, All-head, All-nil, All-tail}
 use Rattle.std.proofs.lemmas.Option.{none-some, same_Some, slice_get_within, get_or_from_slice_get}
-use Rattle.p8_tree.specs.Sources.{Child, Declared, BlockTree, Source}
+use Rattle.p8_tree.specs.Sources.{Child, Declared, Source}
 use Rattle.p8_tree.specs.Sources as trees
 use Rattle.p8_tree.specs.Projects.{NamedSource}
 use Rattle.p8_tree.specs.Proper.{IsSize, IsProperBlock, IsProperDeclared, IsProperFile}

@@ -13,7 +13,7 @@ use Rattle.p8_access.specs.declared.kinds.Answer.TheVariants.{Done, Value, Numbe
 use Rattle.p8_access.specs.Courses.{Told, Wants, Leaves, Closes}
 use Rattle.p8_tree.specs.declared.places.Place.{Place}
 use Rattle.p8_tree.specs.Expressions as expressions
-use Rattle.p8_tree.specs.Expressions.{Tree, node, Form, Var, Call, Binary, Assign, Change, Address, Built, Look, Variable, Named, Register, no_index, index, bits, whole, single, range, Trees, no_trees, ◌▷◌, no_items, ◌▸◌}
+use Rattle.p8_tree.specs.Expressions.{Tree, node, Form, Var, Call, Binary, Assign, Change, Address, Built, Look, Variable, Named, Register, no_index, index, bits, whole, single, range, no_trees, ◌▷◌, no_items, ◌▸◌}
 use Rattle.p8_tree.specs.Statements.{Statement, statement, Action, Do, If, Case, Repeat, Next, Quit, Forever, Count, After, From, Return, Abort, Statements, no_statements, ◌▹◌, arm, no_arms, ◌⊳◌, nothing_else, otherwise}
 use Rattle.p8_tree.specs.Sources.{MethodTree, Method, Declared}
 use Rattle.p8_kinds.specs.declared.name_kinds.NameKind.{NameKind}

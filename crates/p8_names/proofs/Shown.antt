@@ -9,7 +9,7 @@ use Rattle.std.specs.Str.{bytes_eq}
 use Rattle.p8_tree.specs.Names.{result_word, is_reserved, IsName}
 use Rattle.p8_tree.specs.Proper.{IsProperConstant, setting, with_value, counted, IsProperBlock, IsProperFile}
 use Rattle.p8_tree.specs.Sources as trees
-use Rattle.p8_tree.specs.Sources.{Constant, Declared, Line, BlockTree, Source}
+use Rattle.p8_tree.specs.Sources.{Constant, BlockTree, Source}
 use Rattle.p8_fold.specs.declared.meanings.Meaning.{Meaning}
 use Rattle.p8_fold.specs.declared.meanings.Meaning.TheVariants as meaning_case
 use Rattle.p8_fold.specs.Meanings.{Setting, given, value_of_meaning}

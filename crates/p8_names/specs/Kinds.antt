@@ -11,7 +11,7 @@ use Rattle.std.specs.Prelude.{min}
 use Rattle.std.specs.Map.{lookup}
 use Rattle.std.specs.Str.{bytes_eq}
 use Rattle.p8_tree.specs.Sources as trees
-use Rattle.p8_tree.specs.Sources.{Contents, Datum, Declared, MethodTree}
+use Rattle.p8_tree.specs.Sources.{Contents, Declared, MethodTree}
 use Rattle.p8_fold.specs.Meanings.{Setting, meaning_of, given, value_of_meaning}
 use Rattle.p8_constants.specs.Constants.{counted}
 use Rattle.p8_constants.specs.FileItems.{Item, constant, variable, object, method, line}

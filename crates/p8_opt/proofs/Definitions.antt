@@ -7,7 +7,7 @@ use Rattle.std.specs.Str.{bytes_eq}
 use Rattle.std.proofs.lemmas.Grind.{flat_map-append}
 use Rattle.std.proofs.lemmas.Option.{same_Some, none-some}
 use Rattle.p8_tree.specs.Sources as trees
-use Rattle.p8_tree.specs.Sources.{Constant, Declared, Child as ChildItem, MethodTree, Line, BlockTree, Source}
+use Rattle.p8_tree.specs.Sources.{Constant, Child as ChildItem, Source}
 use Rattle.p8_fold.specs.declared.meanings.Meaning.{Meaning}
 use Rattle.p8_fold.specs.declared.meanings.Meaning.TheVariants as meaning_case
 use Rattle.p8_fold.specs.Meanings.{Setting}

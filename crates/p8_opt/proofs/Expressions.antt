@@ -12,7 +12,7 @@ use Rattle.p8_gen.specs.Variables.{number, Home, Operation, Using, leaving, effe
 use Rattle.p8_gen.specs.Expressions.{size_of, method_in, callee, constant, looks_down, starts_method, start_of_method, starts, started, built, value, value_of_form, operate, in_home, values, index_value, call_of_built, arguments, looks, alone}
 use Rattle.p8_meaning.specs.Folding.{number_or, tree_with, form_with, variable_with, index_with, trees_with, arguments_with, items_with}
 use Rattle.p8_opt.proofs.Fixed as shape
-use Rattle.p8_opt.proofs.Fixed.{Fixed, number-fixed, name-fixed, own-fixed, counts-fixed, made-fixed, without-fixed, starts-fixed}
+use Rattle.p8_opt.proofs.Fixed.{number-fixed, name-fixed, own-fixed, counts-fixed, made-fixed, without-fixed}
 use Rattle.p8_opt.proofs.Growing.{value-grows}
 use Rattle.p8_opt.proofs.Starting.{counts-same, starts-same}
 use Rattle.p8_opt.proofs.Steady.{look-steady}

@@ -30,7 +30,7 @@ use Rattle.p8_names.specs.Kinds.{numbered}
 use Rattle.p8_names.proofs.Equal.{settings_equal}
 use Rattle.p8_compiled.proofs.Lengths.{method-measured}
 use Rattle.p8_meaning.specs.Programs as meaning
-use Rattle.p8_meaning.specs.Programs.{File, longs_of, locals_size, object_constant}
+use Rattle.p8_meaning.specs.Programs.{longs_of, locals_size, object_constant}
 use Rattle.p8_stmt.specs.declared.code.MethodCode.{MethodCode}
 use Rattle.p8_stmt.specs.Methods.{count_in, longs_in, rebodied, frame_too_large}
 use Rattle.p8_build.specs.Files.{CompiledFile, setting_of, method_names}

@@ -1,5 +1,5 @@
 -- Images that were built load.
-use Rattle.std.proofs.Common.{◌≡◌, ◌∙◌, ◌<◌, ap, sym, subst, arith, List, length, slice_get, Some}
+use Rattle.std.proofs.Common.{◌≡◌, ◌∙◌, ◌<◌, ap, sym, subst, arith, List, length}
 use Rattle.std.proofs.lemmas.Option.{slice_get_within}
 use Rattle.p8_tree.specs.Projects.{NamedSource}
 use Rattle.p8_image.specs.declared.clocks.Clock.{Clock}

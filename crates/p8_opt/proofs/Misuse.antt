@@ -7,7 +7,7 @@ use Rattle.p8_tree.specs.Expressions.{Tree, node, Form, Number, Str, Strings, He
 use Rattle.p8_tree.specs.Statements.{Course, Forever, Count, Before, After, From, Statement, statement, Do, If, Case, Repeat, Next, Quit, Return, Abort, arm, Otherwise, nothing_else, otherwise, Statements, no_statements, ◌▹◌, Arms, no_arms, ◌⊳◌}
 use Rattle.p8_tree.specs.Lists.{tree_list, count_of_trees}
 use Rattle.p8_tree.specs.Proper as proper
-use Rattle.p8_tree.specs.Proper.{IsProperTree, IsProperForm, IsProperVariable, IsProperIndex, AreProperBits, IsProperItem, AreProperTrees, AreProperItems, IsDone, IsDoneForm, IsProperCourse, IsProperTest, AreProperTests, IsCondition, IsProperExpression, IsProperStatement, AreProperArms, AreProperChoices, IsProperOtherwise, AreProperStatements, gives_value, gives_no_value}
+use Rattle.p8_tree.specs.Proper.{IsProperTree, IsProperForm, IsProperVariable, IsProperIndex, AreProperBits, IsProperItem, AreProperTrees, AreProperItems, IsDone, IsProperCourse, IsProperTest, AreProperTests, IsCondition, IsProperExpression, IsProperStatement, AreProperArms, AreProperChoices, IsProperOtherwise, AreProperStatements, gives_value, gives_no_value}
 use Rattle.p8_tree.specs.declared.faults.Fault.{Fault}
 use Rattle.p8_fold.specs.Values.{FaultInTrees}
 use Rattle.p8_kinds.specs.Environments.{Environment}

@@ -20,7 +20,6 @@ use Rattle.p8_kinds.specs.Kinds.{own, or_else, kind_of}
 use Rattle.p8_kinds.specs.FileSettings.{meaning_of_kind, constant_behind}
 use Rattle.p8_names.specs.Kinds.{numbered, own_kind}
 use Rattle.p8_meaning.specs.Programs as meaning
-use Rattle.p8_meaning.specs.Programs.{object_constant}
 use Rattle.p8_build.specs.Files.{CompiledFile, setting_of}
 use Rattle.p8_build.proofs.Methods.{proper_method}
 use Rattle.p8_opt.specs.Programs.{kind_by, file_of}

@@ -7,7 +7,7 @@ use Rattle.std.proofs.lemmas.List.Elements.{All-nil, All-cons, All-append, All-h
 use Rattle.std.proofs.lemmas.Option.{slice_get_within}
 use Rattle.p8_tree.specs.Names.{result_word, is_reserved, IsName, IsLabel, plain, behind_colon, is_local}
 use Rattle.p8_tree.specs.Sources as trees
-use Rattle.p8_tree.specs.Sources.{Constant, Declared, MethodTree, Line, BlockTree, Source}
+use Rattle.p8_tree.specs.Sources.{Constant, Declared, MethodTree, BlockTree, Source}
 use Rattle.p8_tree.specs.Proper.{IsProperFile, IsProperBlock, IsProperConstant, setting, with_value, counted, IsProperLocal, IsProperMethod, IfThere}
 use Rattle.p8_fold.specs.Meanings.{Setting}
 use Rattle.p8_constants.specs.FileItems.{Item, constant, variable, object, method, line, block_items, items}

@@ -8,7 +8,7 @@ use Rattle.std.proofs.lemmas.List.Elements.{All-nil, All-cons, All-append, All-h
 use Rattle.std.proofs.lemmas.Option.{same_Some, none-some}
 use Rattle.p8_tree.specs.Expressions.{Tree}
 use Rattle.p8_tree.specs.Sources as trees
-use Rattle.p8_tree.specs.Sources.{Contents, Datum, Declared, MethodTree, BlockTree, Source}
+use Rattle.p8_tree.specs.Sources.{Contents, Declared, MethodTree, BlockTree, Source}
 use Rattle.p8_tree.specs.Proper.{is_size, IsSize, IfThere, IsProperFile, IsProperBlock, IsProperDatum, AreProperContents}
 use Rattle.p8_tree.specs.declared.faults.Fault.{Fault}
 use Rattle.p8_tree.specs.Faults.{fault}

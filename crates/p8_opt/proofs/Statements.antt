@@ -14,7 +14,7 @@ use Rattle.p8_gen.proofs.Widths as widths
 use Rattle.p8_gen.proofs.Widths.{Alike}
 use Rattle.p8_meaning.specs.Constants.{Constants, constants_in, constant_value, shorter_number}
 use Rattle.p8_meaning.specs.Folding as folding
-use Rattle.p8_meaning.specs.Folding.{item_with, folded, folded_items, folded_inside, folded_course, holds, number_in, kept_count, kept_before, kept, loop, Chain, Going, Ended, Condition, Known, Unknown, NoTest, condition, known, with_arm, whole_chain, joined, folded_statement, folded_body, folded_other, folded_chain, folded_arms}
+use Rattle.p8_meaning.specs.Folding.{folded, folded_items, folded_inside, folded_course, holds, number_in, kept_count, kept_before, kept, loop, Chain, Going, Ended, Condition, Known, Unknown, NoTest, condition, known, with_arm, joined, folded_statement, folded_body, folded_other, folded_chain, folded_arms}
 use Rattle.p8_opt.specs.Asked.{HideNoConstant}
 use Rattle.p8_opt.proofs.Growing as growing
 use Rattle.p8_opt.proofs.Growing.{Grows, value-grows, test-grows, action-grows, body-grows}

@@ -24,7 +24,7 @@ use Rattle.p8_image.specs.declared.parts.MethodPart.{MethodPart}
 use Rattle.p8_image.specs.declared.parts.ObjectPart.{ObjectPart}
 use Rattle.p8_image.specs.Headers.{header_of}
 use Rattle.p8_image.specs.Layout as layout
-use Rattle.p8_image.specs.Layout.{bases_of, variables_base, first_frame, codes_offset, code_offset, text_offsets, header_by, image_of}
+use Rattle.p8_image.specs.Layout.{variables_base, first_frame, codes_offset, code_offset, text_offsets, header_by, image_of}
 use Rattle.p8_image.specs.Loading.{IsImage, memory_of, start_of}
 use Rattle.p8_image.specs.Projects.{BeginsWithMain}
 use Rattle.p8_image.specs.Places.{AllPartsStand, base_of, entry_of}

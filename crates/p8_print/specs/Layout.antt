@@ -3,7 +3,7 @@
 use Rattle.std.specs.Prelude.{ℕ, ◌+◌, Bool, true, false, if◌then◌else◌, List, [], ◌∷◌, ◌++◌, map}
 use Rattle.std.specs.List.{flat_map}
 use Rattle.p8_tree.specs.Statements as trees
-use Rattle.p8_tree.specs.Statements.{Course, Forever, After, Statement, statement, Action, Arm, arm, Otherwise, nothing_else, otherwise, Statements}
+use Rattle.p8_tree.specs.Statements.{Course, Forever, After, Statement, statement, Action, arm, Otherwise, nothing_else, otherwise, Statements}
 use Rattle.p8_tree.specs.Statements.{no_statements, ◌▹◌, Arms, no_arms, ◌⊳◌}
 use Rattle.p8_tree.specs.Expressions.{Tree, Items, ◌▸◌, single, node, Here}
 use Rattle.p8_tree.specs.Forgetting.{anywhere}

@@ -9,11 +9,10 @@ use Rattle.p8_lexer.specs.declared.word.Word.{Word}
 use Rattle.p8_lexer.specs.declared.word.Word.TheVariants as word
 use Rattle.p8_lexer.specs.declared.token.TokenKind.TheVariants as kind
 use Rattle.p8_grammar.specs.Lexemes as lexemes
-use Rattle.p8_grammar.specs.Lexemes.{in_dat, Lexeme, token}
+use Rattle.p8_grammar.specs.Lexemes.{in_dat, token}
 use Rattle.p8_grammar.specs.Grammar.{IsExpression, a_number, operand, a_word as spells_word, nothing}
 use Rattle.p8_expr.specs.Words.{lexeme_by_kind}
 use Rattle.p8_lexer.specs.Pieces as pieces
-use Rattle.p8_lexer.specs.Pieces.{Piece}
 use Rattle.p8_lines.specs.contracts.state.LineState.{the_type}
 use Rattle.p8_lines.specs.declared.arrow.Arrow.{Arrow}
 use Rattle.p8_lines.specs.declared.state.LineState.{LineState}
@@ -21,7 +20,7 @@ use Rattle.p8_lines.specs.declared.state.LineState.TheVariants as state
 use Rattle.p8_lines.specs.Signs.{is_condition}
 use Rattle.p8_lines.specs.Diagram.{◌⇒◌, outer, choices}
 use Rattle.p8_lines.specs.Tokens as tokens
-use Rattle.p8_lines.specs.Tokens.{LineToken, term, terms, lexeme, piece}
+use Rattle.p8_lines.specs.Tokens.{LineToken, terms, lexeme, piece}
 use Rattle.p8_lines.specs.Lines.{Follows, is_name, Leads, by_phrase}
 use Rattle.p8_lines.proofs.Matching.{target}
 use Rattle.p8_declarations.specs.DataParts.{Part, tree, comma, hash, condition, other, part_of_word, part_of_piece, parts}

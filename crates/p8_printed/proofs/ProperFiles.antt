@@ -3,7 +3,7 @@ use Rattle.std.proofs.Common.{false, List, ap, ◌∙◌, subst}
 use Rattle.std.proofs.lemmas.List.Elements.{recursion_from_All, All-from_recursion}
 use Rattle.p8_tree.specs.Statements.{no_statements}
 use Rattle.p8_tree.specs.Sources as sources
-use Rattle.p8_tree.specs.Sources.{Constant, Declared, Child, MethodTree, Line, BlockTree, Source}
+use Rattle.p8_tree.specs.Sources.{MethodTree, BlockTree, Source}
 use Rattle.p8_tree.specs.Forgetting.{constant_anywhere, declared_anywhere, child_anywhere, method_anywhere, line_anywhere, block_anywhere, IsSameSource}
 use Rattle.p8_tree.specs.Proper.{IsProperConstant, IsProperDeclared, IsProperChild, IsProperMethod, IsProperLine, IsProperBlock, IsProperFile}
 use Rattle.p8_lexer.specs.declared.token.Token as lexer_token

@@ -1,15 +1,15 @@
 -- What a receiver has done so far.
-use Rattle.std.proofs.Common.{◌≡◌, ◌∙◌, ap, sym, refl, subst, ℕ, ◌+◌, ◌<◌, ◌≤◌, Bool, true, false, if◌then◌else◌, List, [], ◌∷◌, ◌++◌, codes, length, filter, append_assoc, add_assoc, arith}
+use Rattle.std.proofs.Common.{◌≡◌, ◌∙◌, ap, sym, subst, ℕ, ◌+◌, ◌<◌, ◌≤◌, Bool, true, false, if◌then◌else◌, List, [], ◌∷◌, ◌++◌, codes, length, filter, append_assoc, add_assoc, arith}
 use Rattle.std.specs.Fmt.{decimal}
 use Rattle.std.specs.Int.{from_bool}
 use Rattle.std.proofs.lemmas.List.{length-map, append-nil}
 use Rattle.p8_access.specs.Worlds.{Line, level_at, levels_after}
 use Rattle.p8_pins.specs.declared.change.Change.{Change}
 use Rattle.p8_pins.specs.Levels.{is_high}
-use Rattle.p8_pins.specs.LevelChanges.{line_of, lines_of, RiseFrom, IsLater, Ahead, pins_from, HasPassed}
+use Rattle.p8_pins.specs.LevelChanges.{line_of, lines_of, RiseFrom, IsLater, Ahead, HasPassed}
 use Rattle.p8_pins.proofs.Passing.{passed-agrees, passed-rise, rise-later}
 use Rattle.p8_serial.specs.declared.frames.Frame.{Frame}
-use Rattle.p8_serial.specs.Serial.{stop_of, frames, falling_edges, is_good, frame_text, frames_text, serial_by}
+use Rattle.p8_serial.specs.Serial.{stop_of, frames, falling_edges, is_good, serial_by}
 use Rattle.p8_serial.specs.Receiving.{falls_in, IsReceiving, IsNext, line_of_frame, lines_to_come, good_to_come, HasReceived}
 use Rattle.p8_serial.proofs.Edges.{all-edges}
 use Rattle.p8_serial.proofs.Receiving.{passed-fewer}

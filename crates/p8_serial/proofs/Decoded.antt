@@ -1,5 +1,5 @@
 -- The text of a run, by the changes of its pins.
-use Rattle.std.proofs.Common.{◌≡◌, ◌∙◌, ap, sym, ℕ, Bool, List}
+use Rattle.std.proofs.Common.{◌≡◌, ◌∙◌, ap, ℕ, Bool, List}
 use Rattle.p8_access.specs.declared.order.Turn.{Turn}
 use Rattle.p8_access.specs.Worlds.{Line, World, level_at}
 use Rattle.p8_pins.specs.Levels.{is_high, high_at, end_of}

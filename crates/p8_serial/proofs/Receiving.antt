@@ -6,10 +6,10 @@ use Rattle.std.proofs.lemmas.Bool.{cases_lt}
 use Rattle.p8_access.specs.Worlds.{Line, levels_after}
 use Rattle.p8_instr.specs.Numerals.{hex}
 use Rattle.p8_pins.specs.Levels.{is_high}
-use Rattle.p8_pins.specs.LevelChanges.{RiseFrom, Within, IsLater, Ahead, pins_from, pins_after, HasPassed}
+use Rattle.p8_pins.specs.LevelChanges.{RiseFrom, Within, IsLater, Ahead, pins_after, HasPassed}
 use Rattle.p8_pins.proofs.Passing.{passes, passed-both, passed-agrees, passed-rise, rise-later, rise-from}
-use Rattle.p8_serial.specs.Serial.{stop_of, frames, number_at, byte_at, is_good, frame_text}
-use Rattle.p8_serial.specs.Receiving.{falls, falls_in, level_in, IsBehind, IsPast, IsReceiving, IsNext, line_of_frame}
+use Rattle.p8_serial.specs.Serial.{stop_of, frames, number_at, byte_at, is_good}
+use Rattle.p8_serial.specs.Receiving.{falls, falls_in, level_in, IsBehind, IsPast, IsReceiving, IsNext}
 use Rattle.p8_serial.proofs.Edges.{skips-if, begins, begins-none}
 
 module _ (pin : ℕ) where

@@ -1,14 +1,13 @@
 -- Rows of bits as lines of a script.
-use Rattle.std.proofs.Common.{◌≡◌, ◌∙◌, ap, sym, refl, subst, ℕ, zero, suc, ◌+◌, ◌*◌, ◌/◌, ◌%◌, ◌^◌, ◌==◌, ◌<◌, ◌≤◌, ◌&&◌, Bool, true, false, not, if◌then◌else◌, List, [], ◌∷◌, ◌++◌, Option, Some, None, length, flat_map, append_assoc, arith}
+use Rattle.std.proofs.Common.{◌≡◌, ◌∙◌, ap, sym, refl, subst, ℕ, zero, suc, ◌+◌, ◌*◌, ◌/◌, ◌%◌, ◌^◌, ◌==◌, ◌<◌, ◌≤◌, ◌&&◌, Bool, true, false, if◌then◌else◌, List, [], ◌∷◌, ◌++◌, Some, flat_map, append_assoc, arith}
 use Rattle.std.specs.Prelude.{slice_get}
-use Rattle.std.specs.Int.{bit_at}
 use Rattle.std.proofs.lemmas.List.Concat.{flat_map-append}
 use Rattle.std.proofs.lemmas.Nat.Bits.{bit_at-zero, bit_at-pow_same}
 use Rattle.p8_access.specs.Worlds.{Line, levels_after}
 use Rattle.p8_pins.specs.Levels.{is_high}
 use Rattle.p8_pins.specs.LevelChanges.{RiseFrom}
 use Rattle.p8_pins.proofs.Passing.{passes, waits, rise-from}
-use Rattle.p8_serial.specs.Typed.{has_bit, frame_of, line_at, line_text, lines_from}
+use Rattle.p8_serial.specs.Typed.{frame_of, line_at, line_text, lines_from}
 
 some-is : (a b : Bool) → Some a ≡ Some b → a ≡ b
 some-is a b e = (cc)

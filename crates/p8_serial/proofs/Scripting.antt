@@ -13,7 +13,7 @@ use Rattle.std.proofs.lemmas.Bool.{cases_lt}
 use Rattle.std.proofs.lemmas.Bool.Decides.{nat_tests}
 use Rattle.std.proofs.lemmas.List.{length-map}
 use Rattle.p8_access.specs.Worlds.{Line}
-use Rattle.p8_pins.specs.Scripts.{is_skipped, Carries, clocks_of, most_lines, most_bytes, IsScript, IsReadAs}
+use Rattle.p8_pins.specs.Scripts.{is_skipped, Carries, clocks_of, IsScript, IsReadAs}
 use Rattle.p8_instr.specs.Numerals.{glyph, hex}
 use Rattle.p8_pins.specs.LevelChanges.{RiseFrom}
 use Rattle.p8_pins.proofs.Passing.{rise-from}

@@ -1,5 +1,5 @@
 -- What a script sends is received.
-use Rattle.std.proofs.Common.{◌≡◌, ◌∙◌, ap, sym, refl, ℕ, ◌+◌, ◌*◌, ◌<◌, ◌≤◌, Bool, true, List, [], ◌∷◌, length, flat_map, arith}
+use Rattle.std.proofs.Common.{◌≡◌, ◌∙◌, ap, sym, ℕ, ◌+◌, ◌*◌, ◌<◌, ◌≤◌, Bool, true, List, [], ◌∷◌, length, flat_map, arith}
 use Rattle.p8_access.specs.declared.order.Turn.{Turn}
 use Rattle.p8_access.specs.Worlds.{Line, World, level_at, levels_after}
 use Rattle.p8_pins.specs.Levels.{is_high, high_at, end_of}
@@ -8,9 +8,9 @@ use Rattle.p8_pins.proofs.Passing.{passes, rise-from}
 use Rattle.p8_serial.specs.Serial.{frames, falling_edges, frames_text, serial_by, serial_of}
 use Rattle.p8_serial.specs.Typed.{frame_of, line_at, lines_from, sent}
 use Rattle.p8_serial.specs.Laws.{CanBeSent, Hears, received_text}
-use Rattle.p8_serial.specs.Receiving.{falls, falls_in, IsReceiving}
+use Rattle.p8_serial.specs.Receiving.{falls, IsReceiving}
 use Rattle.p8_serial.proofs.Edges.{all-edges}
-use Rattle.p8_serial.proofs.Rows.{Sends, high-is, row-rise}
+use Rattle.p8_serial.proofs.Rows.{high-is, row-rise}
 use Rattle.p8_serial.proofs.Heard.{starts, all-frames, all-heard}
 use Rattle.p8_serial.proofs.Inputs.{input-level}
 

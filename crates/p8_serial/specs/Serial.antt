@@ -1,7 +1,7 @@
 -- The serial bytes on a pin: 8 data bits, no parity, one stop bit (RS-232 framing: the start bit is low, the data bits come
 -- lowest first, the stop bit is high). `bits` is the length of a bit in clocks.
 -- A past is a list of turns, the newest first.
-use Rattle.std.specs.Prelude.{ℕ, zero, suc, ◌+◌, ◌*◌, ◌/◌, ◌^◌, ◌&&◌, nat_lt, if◌then◌else◌, Bool, true, false, not, List, [], ◌∷◌, ◌++◌, codes}
+use Rattle.std.specs.Prelude.{ℕ, zero, suc, ◌+◌, ◌*◌, ◌/◌, ◌^◌, ◌&&◌, nat_lt, if◌then◌else◌, Bool, false, not, List, [], ◌∷◌, ◌++◌, codes}
 use Rattle.std.specs.Prelude.{filter, flat_map, length}
 use Rattle.std.specs.Fmt.{decimal}
 use Rattle.std.specs.List.{range_with_len}

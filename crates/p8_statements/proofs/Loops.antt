@@ -8,9 +8,7 @@ use Rattle.p8_statements.specs.declared.role.Role.TheVariants as role
 use Rattle.p8_statements.specs.Roles.{is_dot_dot}
 use Rattle.p8_statements.specs.Rows.{Reading, phrase}
 use Rattle.p8_statements.specs.Statements.{test, behind_value, tests_after}
-use Rattle.p8_statements.specs.declared.statement_pieces.StatementPieces.{StatementPieces}
-use Rattle.p8_statements.specs.declared.statement_pieces.Phrase.{Phrase}
-use Rattle.p8_statements.specs.Views.{rest_of, reading, phrase_of, behind_test}
+use Rattle.p8_statements.specs.Views.{behind_test}
 
 abbrev tests_by : Items → Option Tree → Reading (Tree × Role) → Option Items
 tests_by xs low None = None

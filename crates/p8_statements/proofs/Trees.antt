@@ -1,21 +1,18 @@
 -- Trees that hold a vector.
-use Rattle.std.specs.Prelude.{◌≡◌, refl, ℕ, Bool, Option, None, List, [], ◌∷◌, ◌++◌, Vec, Box}
+use Rattle.std.specs.Prelude.{◌≡◌, refl, ℕ, Option, None, List, [], ◌∷◌, ◌++◌}
 use Rattle.std.proofs.Common.{ap, sym, ◌∙◌}
-use Rattle.std.specs.declared.alloc.Global.{Global}
 use Rattle.p8_tree.specs.declared.places.Place.{Place}
-use Rattle.p8_tree.specs.declared.expressions.Expr.{Expr, roll-Expr}
 use Rattle.p8_tree.specs.declared.expressions.Item.{Item}
 use Rattle.p8_tree.specs.declared.expressions.Call as call
-use Rattle.p8_tree.specs.declared.expressions.Call.{roll-Call}
 use Rattle.p8_tree.specs.declared.expressions.Target.{Target}
 use Rattle.p8_tree.specs.declared.expressions.ExprKind as kind
 use Rattle.p8_tree.specs.declared.expressions.ExprKind.{ExprKind}
 use Rattle.p8_tree.specs.declared.expressions.ExprKind.TheVariants as kind_case
 use Rattle.p8_tree.specs.Expressions as trees
-use Rattle.p8_tree.specs.Expressions.{node, Var, ◌▷◌, ◌▸◌, Index, Call, Built}
-use Rattle.p8_tree.specs.Views.{tree_of, trees_of, items_of, item_of, call_of, form_of, variable_of}
+use Rattle.p8_tree.specs.Expressions.{node, Var, ◌▷◌, ◌▸◌, Call}
+use Rattle.p8_tree.specs.Views.{items_of, item_of, form_of, variable_of}
 use Rattle.p8_statements.specs.Statements.{counter}
-use Rattle.p8_tree.specs.Bridges.{trees_of-push, items_of-push, built_is, call_is, boxed_index}
+use Rattle.p8_tree.specs.Bridges.{items_of-push}
 
 pub items_pushed : (xs ys : List Item) (x : Item) (i : trees.Item) → ys ≡ xs ++ x ∷ [] → item_of x ≡ i → items_of ys ≡ items_of xs ▸ i
 items_pushed xs ys x i h same = ap items_of h ∙ items_of-push xs x ∙ ap (λ i. items_of xs ▸ i) same

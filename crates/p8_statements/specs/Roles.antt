@@ -1,6 +1,6 @@
 -- What each word is to a statement (Propeller Manual v1.2, "Spin Language Reference": "Operators" and the
 -- entries of the words).
-use Rattle.std.specs.Prelude.{Bool, true, false, Some, None}
+use Rattle.std.specs.Prelude.{Bool, true, false}
 use Rattle.p8_lexer.specs.declared.word.Word.{Word}
 use Rattle.p8_lexer.specs.declared.word.Word.TheVariants as word
 use Rattle.p8_statements.specs.declared.role.Role.{Role}

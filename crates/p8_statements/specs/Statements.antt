@@ -1,7 +1,7 @@
 -- What a line of a method is, by its row of pieces (Propeller Manual v1.2, "Spin Language Reference": IF, CASE,
 -- REPEAT, NEXT, QUIT, RETURN, ABORT, and the entries of the built-in methods). A row ends with the end of its
 -- line, an item of a CASE and its OTHER with the colon.
-use Rattle.std.specs.Prelude.{ℕ, Bool, true, false, if◌then◌else◌, not, List, ◌∷◌, Option, None, Some, option_map, option_and_then}
+use Rattle.std.specs.Prelude.{ℕ, Bool, false, if◌then◌else◌, not, List, ◌∷◌, Option, None, Some, option_map, option_and_then}
 use Rattle.p8_tree.specs.declared.places.Place.{Place}
 use Rattle.p8_tree.specs.Expressions.{Tree, node, Var, Named, no_index, Item, single, range, Items, no_items, ◌▸◌}
 use Rattle.p8_tree.specs.Statements.{Course, Forever, Count, Before, From, Do, Next, Quit, Return, Abort}

@@ -1,5 +1,5 @@
 -- How large a method is, and whether that is too large.
-use Rattle.std.proofs.Common.{◌≡◌, ◌⊎◌, inl, inr, ℕ, ◌+◌, ◌-◌, ◌^◌, ◌<◌, ◌||◌, nat_lt, min, Bool, true, false, length, refl, sym, ap, ap₂, ◌∙◌, subst, arith}
+use Rattle.std.proofs.Common.{◌≡◌, ◌⊎◌, inl, inr, ℕ, ◌+◌, ◌-◌, ◌^◌, ◌<◌, ◌||◌, nat_lt, min, Bool, true, false, refl, ap, ◌∙◌, arith}
 use Rattle.std.proofs.lemmas.Bool.Decides.{nat_tests}
 use Rattle.p8_tree.specs.declared.places.Place.{Place}
 use Rattle.p8_tree.specs.Sources.{MethodTree}
@@ -8,8 +8,7 @@ use Rattle.p8_tree.specs.Faults.{fault}
 use Rattle.p8_tree.specs.declared.refusal.Refusal.TheVariants.{FrameTooLarge}
 use Rattle.p8_gen.specs.Depths.{held_in}
 use Rattle.p8_gen.specs.Names.{Names}
-use Rattle.p8_stmt.specs.Cutting.{cut_longs}
-use Rattle.p8_stmt.specs.Methods.{longs_in, frame_longs, size_of, most_longs, most_held, IsMethodFault, jump_too_far, frame_too_large, holds_too_much}
+use Rattle.p8_stmt.specs.Methods.{frame_longs, size_of, most_longs, most_held, IsMethodFault, jump_too_far, frame_too_large, holds_too_much}
 
 -- a test on a number that stops at a greater limit
 pub cut_test : (n limit most : ℕ) → most < limit → nat_lt most (min n limit) ≡ nat_lt most n

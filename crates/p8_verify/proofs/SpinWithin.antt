@@ -55,12 +55,12 @@ use Rattle.p8_bcog.specs.Calls.{entered, returned}
 use Rattle.p8_bcog.specs.Bytecodes.{constant, packed, less_one_if, inverted_if}
 use Rattle.p8_verify.specs.Table.{IsOriginWithin, IsTestWithin, IsAccessWithin}
 use Rattle.p8_verify.proofs.Words as words
-use Rattle.p8_verify.proofs.Words.{if-word, mod-word, and-word, and-word-right, or-word, right-word}
+use Rattle.p8_verify.proofs.Words.{if-word, mod-word, and-word-right, or-word, right-word}
 use Rattle.p8_verify.proofs.Operators.{unary-word, binary-word}
 use Rattle.p8_verify.proofs.Decoded.{IsByte, IsFound, fetched-found}
 use Rattle.p8_verify.proofs.Limits.{IsWord, reduced-word, aligned-below, OptionWithin, none-within, if-option, AreAnswered}
 use Rattle.p8_verify.proofs.SpinStates as so
-use Rattle.p8_verify.proofs.SpinStates.{AreSound, Sound, IsSound, IsLeft, operand-word, pushed-sound, taken-sound, at-sound, replaced-sound}
+use Rattle.p8_verify.proofs.SpinStates.{AreSound, IsSound, IsLeft, operand-word, pushed-sound, taken-sound, at-sound, replaced-sound}
 use Rattle.p8_verify.proofs.SpinStates.{jumped-sound, jumped_if-sound, if-sound, left-sound}
 use Rattle.p8_verify.proofs.SpinStates.{Holds, finishes, asks, either, tests, finishes-if, word-in, course-holds}
 

@@ -1,5 +1,5 @@
 -- The place behind a turn, by what its cog runs.
-use Rattle.std.proofs.Common.{◌≡◌, ◌∙◌, refl, sym, ap, ℕ, zero, suc, Bool, true, false, if◌then◌else◌, ◌==◌, Option, Some, None, List, [], ◌∷◌}
+use Rattle.std.proofs.Common.{◌≡◌, ◌∙◌, refl, sym, ap, ℕ, Bool, true, false, if◌then◌else◌, ◌==◌, Option, Some, None, List, [], ◌∷◌}
 use Rattle.std.proofs.lemmas.Option.{same_Some}
 use Rattle.p8_access.specs.declared.kinds.Origin.{Origin}
 use Rattle.p8_access.specs.declared.kinds.Origin.TheVariants.{Pasm, Spin}
@@ -7,8 +7,8 @@ use Rattle.p8_access.specs.declared.order.Turn.{Turn}
 use Rattle.p8_access.specs.declared.states.CogState.{CogState}
 use Rattle.p8_access.specs.declared.states.CogState.TheVariants.{Stopped, Starting, Running}
 use Rattle.p8_access.specs.Hub.{Change, Starts, Runs, Stops, change_of, changed, cog_state, origin_of}
-use Rattle.p8_access.specs.Histories.{begins_life, begun, begun_at}
-use Rattle.p8_access.specs.Lives.{Begun, Entered, Loaded, PasmBegun, SpinBegun}
+use Rattle.p8_access.specs.Histories.{begun, begun_at}
+use Rattle.p8_access.specs.Lives.{Entered, Loaded, PasmBegun, SpinBegun}
 use Rattle.p8_access.specs.Worlds.{World}
 use Rattle.p8_access.proofs.Changes.{begun-new, begun-same, none-begins, runs-begins}
 use Rattle.p8_legend.specs.declared.legend.Legend.{Legend}

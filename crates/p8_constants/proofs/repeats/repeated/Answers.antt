@@ -1,4 +1,4 @@
-use Rattle.std.proofs.Common.{ℕ, List, [], ◌∷◌, ◌++◌, sym, subst, ap, ◌∙◌}
+use Rattle.std.proofs.Common.{ℕ, [], ◌∷◌, ◌++◌, sym, subst, ap, ◌∙◌}
 use Rattle.std.specs.Prelude.{IsTrue, Contains, ◌↔◌}
 use Rattle.p8_tree.specs.Faults.{fault}
 use Rattle.p8_fold.specs.Values.{where_so}

@@ -2,7 +2,6 @@ use Rattle.std.proofs.Common.{◌∙◌, sym, subst, ℕ}
 use Rattle.p8_desk.specs.PassSets.{AllThere}
 use Rattle.p8_desk.specs.Passes.{DeskValue}
 use Rattle.p8_crew.specs.Crews.{AreThere}
-use Rattle.p8_crew.proofs.Counting.{rose-by-one}
 use Rattle.p8_crew.proofs.Endings.{closed-at, only-one, begins-each, all-rise}
 use Rattle.p8_crew.proofs.Places.{are-all-there}
 use Rattle.p8_crew.proofs.crew.run_crew.Goals as goal

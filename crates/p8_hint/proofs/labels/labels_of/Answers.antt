@@ -1,4 +1,4 @@
-use Rattle.std.proofs.Common.{◌≡◌, ◌∙◌, Bool, ℕ, ◌-◌, List, ◌∷◌, length, drop, ap, ap₂, sym, subst, arith}
+use Rattle.std.proofs.Common.{◌≡◌, ◌∙◌, ℕ, ◌-◌, List, ◌∷◌, length, drop, ap, ap₂, sym, subst, arith}
 use Rattle.std.proofs.lemmas.List.{drop_all}
 use Rattle.p8_constants.specs.Standing.{item_of, items_of}
 use Rattle.p8_hint.specs.Rules.{after}

@@ -1,6 +1,6 @@
 use Rattle.std.proofs.Common.{◌≡◌, ℕ, List, ◌++◌, ◌∙◌, ap, sym, map, slice_index}
 use Rattle.p8_image.specs.Keeping.{kept}
-use Rattle.p8_image.specs.Layout.{codes_of, texts_offset, text_offsets, places_from, text_size}
+use Rattle.p8_image.specs.Layout.{codes_of, texts_offset, places_from, text_size}
 use Rattle.p8_image.proofs.Keeping.{kept_twice}
 use Rattle.p8_image.proofs.Words.{kept_codes}
 use Rattle.p8_image.proofs.bytes.linked_codes.Goals as goal

@@ -5,7 +5,7 @@ use Rattle.std.proofs.lemmas.List.Elements.{All-pop}
 use Rattle.p8_fold.specs.ConstantEntries.{setting_of}
 use Rattle.p8_kinds.specs.Entries.{at_bytes}
 use Rattle.p8_kinds.specs.FileSettings.{HasMeaning}
-use Rattle.p8_kinds.proofs.Tables.{IsPartly, partly_first, partly_last, partly_next}
+use Rattle.p8_kinds.proofs.Tables.{IsPartly, partly_first, partly_next}
 use Rattle.p8_kinds.proofs.settings.enter_meanings.Goals as goal
 
 pub entries-init : goal.entries-init

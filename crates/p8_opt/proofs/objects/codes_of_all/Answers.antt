@@ -1,4 +1,4 @@
-use Rattle.std.proofs.Common.{length, ap, refl, arith}
+use Rattle.std.proofs.Common.{length, ap, refl}
 use Rattle.std.proofs.lemmas.Option.{slice_get_read}
 use Rattle.p8_build.proofs.Lists.{count_more}
 use Rattle.p8_opt.proofs.OneByOne.{no-files, one-file-more}

@@ -1,6 +1,6 @@
-use Rattle.std.proofs.Common.{◌≡◌, ◌≤◌, ◌∙◌, ◌-◌, ℕ, length, ap, sym, subst, arith}
+use Rattle.std.proofs.Common.{◌≡◌, ◌≤◌, ◌∙◌, ◌-◌, ℕ, length, ap, sym, arith}
 use Rattle.std.proofs.lemmas.List.{length-map}
-use Rattle.p8_fold.specs.ConstantEntries.{setting_of, at_bytes}
+use Rattle.p8_fold.specs.ConstantEntries.{setting_of}
 use Rattle.p8_fold.proofs.Bytes.{at_bytes-empty}
 use Rattle.p8_constants.specs.Rows.{rows_from, row_from, row_at, node_of, or_else, named_here}
 use Rattle.p8_constants.proofs.Rowing.{index_from, index_begin, index_more, index_end}

@@ -1,5 +1,5 @@
 use Rattle.std.proofs.Common.{◌≡◌, ℕ, length}
-use Rattle.p8_pins.specs.LevelChanges.{Ahead, HasPassed, lines_of}
+use Rattle.p8_pins.specs.LevelChanges.{HasPassed, lines_of}
 use Rattle.p8_pins.proofs.cursor.Cursor.go_to.Given as goal
 
 abbrev pub invariant-loop-change : goal.invariant-loop-change
