@@ -29,9 +29,10 @@ use Rattle.p8_opt.proofs.Kept.{same-program}
 use Rattle.p8_io.specs.Shelves.{Files}
 use Rattle.p8_inputs.specs.declared.program.Format.TheVariants.{Source as source_format}
 use Rattle.p8_prop.specs.Headline as whole
-use Rattle.p8_prop.specs.Images.{HasKinds, HasData, HasCode, HasShortCode, IsCompilation, AreCompilations, IsImageOf}
+use Rattle.p8_prop.specs.Images.{HasKinds, HasData, HasCode, Coding, Plain, IsCompilation, AreCompilations, IsImageOf}
+use Rattle.p8_prop.specs.Shorts.{HasShortCode, Short}
 use Rattle.p8_prop.specs.Runs.{IsCompiledFrom}
-use Rattle.p8_prop.proofs.Sourcing.{grows}
+use Rattle.p8_prop.proofs.Gathering.{gathers}
 use Rattle.p8_prop.proofs.Naming.{AreClean, setting-is, beside, children-are}
 
 -- ---- a file
@@ -50,7 +51,7 @@ short-code-of : (names : Names) (m : MethodTree) (body : Statements) (code : Met
 short-code-of names m body code is =
     record { widths = is.widths; least = is.least; code_is = code-of (widened names (wide_in is.widths)) m body code is.code_is }
 
-file-of : (source : Source) (children : Children) (top : Bool) (x : CompiledFile) → IsCompiled source children top x → IsCompilation false source children x
+file-of : (source : Source) (children : Children) (top : Bool) (x : CompiledFile) → IsCompiled source children top x → IsCompilation Plain source children x
 file-of source children top x is = record {
   names = kinds-of source children top x.kinds is.names;
   dat = data-of source children x is.dat;
@@ -69,7 +70,7 @@ unfolding recoded
 recoded-is source children x y short = λ i. record { kinds = short.kinds i; dat = short.dat i; labels = short.labels i; codes = y.codes }
 
 short-recoded : (source : Source) (children : Children) (top : Bool) (x y : CompiledFile) → IsCompiled source children top x → IsShort source children x y
-    → IsCompilation true source children (recoded x y)
+    → IsCompilation Short source children (recoded x y)
 unfolding recoded
 short-recoded source children top x y is short = record {
   names = kinds-of source children top x.kinds is.names;
@@ -81,13 +82,13 @@ short-recoded source children top x y is short = record {
 }
 
 short-file-of : (source : Source) (children : Children) (top : Bool) (x y : CompiledFile) → IsCompiled source children top x → IsShort source children x y
-    → IsCompilation true source children y
+    → IsCompilation Short source children y
 short-file-of source children top x y is short =
-    subst (IsCompilation true source children) (sym (recoded-is source children x y short)) (short-recoded source children top x y is short)
+    subst (IsCompilation Short source children) (sym (recoded-is source children x y short)) (short-recoded source children top x y is short)
 
 -- ---- a project
 
-files-of : (files : List NamedSource) (children : List Children) (xs : List CompiledFile) → AreCompiled files children xs → AreCompilations false files children xs
+files-of : (files : List NamedSource) (children : List Children) (xs : List CompiledFile) → AreCompiled files children xs → AreCompilations Plain files children xs
 files-of files children xs are =
     record { count = are.count; each = λ i file seen x at has. file-of file.tree seen (i == 0) x (are.each i file seen x at has) }
 
@@ -98,7 +99,7 @@ clean-of files children xs are i file seen at at' =
     (i == 0, (are.each i file seen it.0 (record { stands = at; beside = at' }) it.1).names.clean)
 
 module _ (files : List NamedSource) (children : List Children) (xs ys : List CompiledFile) (are : AreCompiled files children xs) (short : AreShort files children xs ys) where
-  short-files-of : AreCompilations true files children ys
+  short-files-of : AreCompilations Short files children ys
   short-files-of = record {
     count = short.count ∙ are.count;
     each = λ i file seen y at has.
@@ -125,7 +126,7 @@ same-clock (f ∷ fs) (c ∷ cs) (x ∷ xs) (y ∷ ys) seen many short =
 -- ---- the image of an accepted project
 
 pub plain-image : (sources : List NamedSource) (clock : Clock) (objects : List ObjectPart) (bytes : List ℕ) (built : IsBuilt sources clock objects)
-    → bytes ≡ image_of clock objects → IsImageOf false sources built.children built.compiled objects bytes
+    → bytes ≡ image_of clock objects → IsImageOf Plain sources built.children built.compiled objects bytes
 plain-image sources clock objects bytes built is = record {
   seen = children-are sources built.children (clean-of sources built.children built.compiled built.each) built.seen;
   compiled = files-of sources built.children built.compiled built.each;
@@ -136,7 +137,7 @@ plain-image sources clock objects bytes built is = record {
 }
 
 pub short-image : (sources : List NamedSource) (clock : Clock) (objects : List ObjectPart) (bytes : List ℕ) (built : IsShortBuilt sources clock objects)
-    → bytes ≡ image_of clock objects → IsImageOf true sources built.children built.short objects bytes
+    → bytes ≡ image_of clock objects → IsImageOf Short sources built.children built.short objects bytes
 short-image sources clock objects bytes built is = record {
   seen = children-are sources built.children (clean-of sources built.children built.compiled built.each) built.seen;
   compiled = short-files-of sources built.children built.compiled built.short built.each built.shorter;
@@ -148,13 +149,18 @@ short-image sources clock objects bytes built is = record {
 
 -- ---- what is told by a source
 
+-- the codes with `--short` and without
+abbrev pub coding : Bool → Coding
+coding false = Plain
+coding true = Short
+
 pub told-by : (files : Files) (short : Bool) (top bytes : List ℕ) (w : World) (past : List Turn) → whole.IsToldBySource files (source_format short) top bytes w past
-    → IsCompiledFrom files short top bytes w past
+    → IsCompiledFrom (coding short) files top bytes w past
 told-by files false top bytes w past (sources, clock, objects, from, is, lives) =
     let built = from.built in
     record {
       sources = sources;
-      gathered = grows from.gathered;
+      gathered = gathers from.gathered;
       children = built.children;
       compiled = built.compiled;
       objects = objects;
@@ -167,7 +173,7 @@ told-by files true top bytes w past (sources, clock, objects, from, is, lives) =
     let same = same-programs sources built.children built.compiled built.short built.each built.shorter in
     record {
       sources = sources;
-      gathered = grows from.gathered;
+      gathered = gathers from.gathered;
       children = built.children;
       compiled = built.short;
       objects = objects;

@@ -27,7 +27,7 @@ use Rattle.p8_lines.proofs.Lexemes.{is_plain, named_label}
 use Rattle.p8_declarations.specs.DataParts.{part_of_word, part_of_piece}
 use Rattle.p8_blocks.proofs.Pieces.{word_piece, name_piece, text_piece, is_labelled, plain_piece}
 use Rattle.p8_blocks.proofs.Closed.{is_closed, own_next, own_behind}
-use Rattle.p8_prop.specs.Sources.{Spelling, Row, last, a_token, a_label, an_expression, declared, headed, in_text, is_open, in_data, is_known}
+use Rattle.p8_prop.proofs.Reading.{Spelling, Row, last, a_token, a_label, an_expression, declared, headed, in_text, is_open, in_data, is_known}
 
 -- ---- a line ends with the end of a line, or with a colon, and nowhere else
 

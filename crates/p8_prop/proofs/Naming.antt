@@ -33,7 +33,8 @@ use Rattle.p8_names.specs.Settings as settings
 use Rattle.p8_names.specs.Children as children_specs
 use Rattle.p8_names.specs.Faults.{IsNameFault, of_constant}
 use Rattle.p8_names.specs.Mentions.{mentions}
-use Rattle.p8_prop.specs.Names.{added, worth, IsSetting, IsSeen, AreSeen, AreChildren}
+use Rattle.p8_prop.specs.Names.{IsSetting, IsSeen, AreSeen, AreChildren}
+use Rattle.p8_prop.proofs.Worth.{added, worth, IsSettingBySums, setting-to}
 
 -- ---- a name that is no constant where it stands is a fault there
 
@@ -238,8 +239,11 @@ module _ (file : Source) (children : Children) (top : Bool) (clean : (f : Fault)
         is.others n (is-some some) ∙ some ∙ sym (ap (λ (x : Option Meaning). option_or x (option_map (worth s) (definition (definitions file) n))) some)
   ]
 
+  by-sums : IsSettingBySums file children.items s
+  by-sums = record { names = name-is; behind = is.behind; here = is.here }
+
   pub setting-is : IsSetting file children.items s
-  setting-is = record { names = name-is; behind = is.behind; here = is.here }
+  setting-is = setting-to s by-sums
 
 -- ---- an accepted project
 

@@ -26,8 +26,8 @@ use Rattle.p8_declarations.specs.Lines.{local, value, before, behind, open_brack
 use Rattle.p8_declarations.specs.Lines.{behind_hash, source, behind_destination, operands, instruction, body, blank, line, maybe_line}
 use Rattle.p8_blocks.specs.Files.{lines_in, lines_of_row}
 use Rattle.p8_blocks.proofs.Pieces.{word_piece}
-use Rattle.p8_prop.specs.Sources as said
-use Rattle.p8_prop.specs.Sources.{is_open, in_data, is_known, data_of_row}
+use Rattle.p8_prop.proofs.Reading as said
+use Rattle.p8_prop.proofs.Reading.{is_open, in_data, is_known, data_of_row}
 use Rattle.p8_prop.proofs.Barred.{Bars, begins-none}
 use Rattle.p8_prop.proofs.Marks.{Sort, a_name, a_text, a_word, sort, other-bars, closes, closes-bars, is_block, block-piece}
 use Rattle.p8_prop.proofs.OneRow.{Table, Reads, last, a_token, a_label, an_expression, IsClear, one, some-one, goes, gone}

@@ -17,8 +17,8 @@ use Rattle.p8_declarations.specs.Constants.{constants, constants_named, constant
 use Rattle.p8_declarations.specs.Variables.{variables, variables_named, variables_behind, sized_variables, variables_of_row}
 use Rattle.p8_declarations.specs.Objects.{in_file, object_named, object, alone, objects_of_row}
 use Rattle.p8_declarations.specs.Methods.{behind_result, result_named, behind_parameters, parameters, behind_parameter, behind_name, head, method_of_row}
-use Rattle.p8_prop.specs.Sources as said
-use Rattle.p8_prop.specs.Sources.{Spelling, declared, headed}
+use Rattle.p8_prop.proofs.Reading as said
+use Rattle.p8_prop.proofs.Reading.{Spelling, declared, headed}
 use Rattle.p8_prop.proofs.Barred.{Bars}
 use Rattle.p8_prop.proofs.Marks.{Sort, a_name, a_text, a_word, sort, closes, closes-bars, is_block, block-piece}
 use Rattle.p8_prop.proofs.OneRow.{Table, Reads, last, a_token, a_label, an_expression, IsClear, one, some-one, run, reads}

@@ -3,16 +3,14 @@ use Rattle.std.proofs.Common.{◌≡◌, ◌⊎◌, inl, inr, ◌∙◌, sym, ap
 use Rattle.std.specs.Prelude.{IsTrue}
 use Rattle.p8_tree.specs.Sources as sources
 use Rattle.p8_tree.specs.Sources.{Constant, Declared, Child, BlockTree, Source}
-use Rattle.p8_lexer.specs.declared.token.Token.{Token}
 use Rattle.p8_lexer.specs.declared.word.Word.{Word}
 use Rattle.p8_lexer.specs.declared.word.Word.TheVariants as words
 use Rattle.p8_lexer.specs.Pieces.{Piece}
-use Rattle.p8_lexer.proofs.Files.{one_list}
 use Rattle.p8_columns.specs.Lines as lines
 use Rattle.p8_columns.specs.Lines.{Kind}
 use Rattle.p8_columns.specs.Reader.{start, walk, whole}
 use Rattle.p8_columns.proofs.Reading.{complete}
-use Rattle.p8_lines.specs.Tokens.{LineToken, all_tokens, word, piece}
+use Rattle.p8_lines.specs.Tokens.{LineToken, with_end, word, piece}
 use Rattle.p8_declarations.specs.Constants.{constants_of_row}
 use Rattle.p8_declarations.specs.Variables.{variables_of_row}
 use Rattle.p8_declarations.specs.Objects.{objects_of_row}
@@ -21,8 +19,9 @@ use Rattle.p8_statements.specs.Statements.{kind_of_row}
 use Rattle.p8_blocks.specs.Files.{method_word, first_block}
 use Rattle.p8_prop.proofs.Marks.{is_block}
 use Rattle.p8_prop.proofs.OneDeclaration.{IsReadOnce, BeginsNoBlock}
-use Rattle.p8_prop.specs.Sources as said
-use Rattle.p8_prop.specs.Sources.{Spelling, Row, IsLine, declared, headed, in_text, in_data, data_of_row, Declare, AreLines, IsBlock, IsFile, IsSource, with_body}
+use Rattle.p8_prop.proofs.SaidCutting.{one-cut}
+use Rattle.p8_prop.proofs.Reading as said
+use Rattle.p8_prop.proofs.Reading.{Spelling, Row, IsLine, declared, headed, in_text, in_data, data_of_row, Declare, AreLines, IsBlock, IsFile, IsSource, with_body}
 
 -- ---- lists
 
@@ -346,5 +345,5 @@ module _ (read : AreRowsRead) where
   -- bytes have one reading
   pub one-source : (bytes : List ℕ) (s s' : Source) → IsSource bytes s → IsSource bytes s' → s ≡ s'
   one-source bytes s s' p q =
-      let tokens : q.tokens ≡ p.tokens = one_list bytes q.tokens p.tokens q.cut p.cut in
-      one-file p.is (subst (λ (ts : List Token). IsFile s' (all_tokens bytes ts)) tokens q.is)
+      let tokens : q.tokens ≡ p.tokens = one-cut q.cut p.cut in
+      one-file p.is (subst (λ (ts : List LineToken). IsFile s' (with_end ts)) tokens q.is)

@@ -39,8 +39,9 @@ use Rattle.p8_build.specs.Files.{CompiledFile, setting_of, method_names, object_
 use Rattle.p8_build.specs.Builds.{IsFile, AreCompiled, objects_of, constant_named, constant_value, clock_by}
 use Rattle.p8_build.proofs.One.{AreAlike, of_file, same_setting, same_method_names}
 use Rattle.p8_build.proofs.Wholes.{objects_same}
-use Rattle.p8_prop.specs.Images.{HasKinds, HasCode, HasCodeBy, IsCompilation, AreCompilations, IsImageOf}
+use Rattle.p8_prop.specs.Images.{HasKinds, HasCode, IsCompilation, AreCompilations, IsImageOf}
 use Rattle.p8_prop.proofs.Naming.{beside}
+use Rattle.p8_prop.proofs.Imaging.{coding}
 use Rattle.p8_prop.proofs.OneNames.{HasOneSetting, one-setting}
 use Rattle.p8_prop.proofs.OneView.{HaveOneSetting, one-view}
 
@@ -99,8 +100,8 @@ one-part strings names m body c d p q =
     uses-told strings c.strings ∙ ap (map (told-use strings)) (p.strings ∙ sym q.strings) ∙ sym (uses-told strings d.strings) in
     λ i. record { parameters = 4 * length m.params; locals = (p.locals ∙ sym q.locals) i; code = (p.bytes ∙ sym q.bytes) i; uses = uses i }
 
-one-part-by : (short : Bool) (strings : Texts) (s : Setting) (names : Names) (m : MethodTree) (c d : MethodCode) → HasCodeBy short s names m c
-    → HasCodeBy short s names m d → method_part strings m c ≡ method_part strings m d
+one-part-by : (short : Bool) (strings : Texts) (s : Setting) (names : Names) (m : MethodTree) (c d : MethodCode) → coding short s names m c
+    → coding short s names m d → method_part strings m c ≡ method_part strings m d
 one-part-by false strings s names m c d p q = one-part strings names m m.body c d p q
 one-part-by true strings s names m c d p q =
     let body = folded_body (constants_in s) m.body in
@@ -122,7 +123,7 @@ parts-same strings (m ∷ ms) (c ∷ cs) (d ∷ ds) long other each =
 -- ---- a file
 
 module _ (short : Bool) (source : Source) (children : Children) (one : HasOneSetting source children.items) (x y : CompiledFile)
-    (p : IsCompilation short source children x) (q : IsCompilation short source children y) where
+    (p : IsCompilation (coding short) source children x) (q : IsCompilation (coding short) source children y) where
   names-alike : AreAlike source x.kinds y.kinds
   names-alike = alike source children x.kinds y.kinds one p.names q.names
 
@@ -143,8 +144,8 @@ module _ (short : Bool) (source : Source) (children : Children) (one : HasOneSet
       let s = setting_of children y in
       let names = method_names children y k m in
       one-part-by short strings s names m c d
-      (subst (λ (s : Setting). HasCodeBy short s names m c) settings
-      (subst (λ (names : Names). HasCodeBy short (setting_of children x) names m c) (same_method_names source children x y k m names-alike labels at)
+      (subst (λ (s : Setting). coding short s names m c) settings
+      (subst (λ (names : Names). coding short (setting_of children x) names m c) (same_method_names source children x y k m names-alike labels at)
       (p.codes.each k m c at at_c)))
       (q.codes.each k m d at at_d))
 
@@ -159,7 +160,7 @@ module _ (short : Bool) (source : Source) (children : Children) (one : HasOneSet
 -- ---- a project
 
 module _ (short : Bool) (files : List NamedSource) (children : List Children) (one : HaveOneSetting files children) (seen : length children ≡ length files)
-    (xs ys : List CompiledFile) (p : AreCompilations short files children xs) (q : AreCompilations short files children ys) where
+    (xs ys : List CompiledFile) (p : AreCompilations (coding short) files children xs) (q : AreCompilations (coding short) files children ys) where
   one-objects : objects_of files children xs ≡ objects_of files children ys
   one-objects = objects_same files files children xs ys seen p.count q.count (λ i f c x y at_f at_c at_x at_y.
       let is : IsFile files children i f c = record { stands = at_f; beside = at_c } in
@@ -172,7 +173,7 @@ clock-same k l same =
     λ i. clock_of (same (codes "_CLKMODE") i) (same (codes "_CLKFREQ") i) (same (codes "_XINFREQ") i)
 
 one-clock : (short : Bool) (files : List NamedSource) (children : List Children) (xs ys : List CompiledFile) → HaveOneSetting files children
-    → length children ≡ length files → AreCompilations short files children xs → AreCompilations short files children ys → clock_by xs ≡ clock_by ys
+    → length children ≡ length files → AreCompilations (coding short) files children xs → AreCompilations (coding short) files children ys → clock_by xs ≡ clock_by ys
 one-clock short [] children [] [] one seen p q = refl
 one-clock short [] children (x ∷ xs) ys one seen p q = absurd (omega (arith, p.count))
 one-clock short [] children [] (y ∷ ys) one seen p q = absurd (omega (arith, q.count))
@@ -186,10 +187,10 @@ one-clock short (f ∷ files) (c ∷ children) (x ∷ xs) (y ∷ ys) one seen p 
 -- The image of a project is one thing: whatever children, codes and objects are named for it.
 pub one-image : (short : Bool) (files : List NamedSource) → AreDistinct files → HaveNoRing files → (a b : List Children) → HaveOneSetting files a
     → (xs ys : List CompiledFile) (objects others : List ObjectPart) (image other : List ℕ)
-    → IsImageOf short files a xs objects image → IsImageOf short files b ys others other → image ≡ other
+    → IsImageOf (coding short) files a xs objects image → IsImageOf (coding short) files b ys others other → image ≡ other
 one-image short files distinct no_ring a b one xs ys objects others image other p q =
     let same : b ≡ a = sym (one-view files distinct a b one p.seen q.seen no_ring) in
-    let compiled : AreCompilations short files a ys = subst (λ (c : List Children). AreCompilations short files c ys) same q.compiled in
+    let compiled : AreCompilations (coding short) files a ys = subst (λ (c : List Children). AreCompilations (coding short) files c ys) same q.compiled in
     let found : objects ≡ others =
     p.laid_out ∙ one-objects short files a one p.seen.one_each xs ys p.compiled compiled
     ∙ ap (λ (c : List Children). objects_of files c ys) (sym same) ∙ sym q.laid_out in

@@ -1,5 +1,5 @@
 -- What the names of an accepted file mean is one thing: no other meanings make each constant worth what its item says by them.
-use Rattle.std.proofs.Common.{◌≡◌, inl, inr, ◌∙◌, sym, ap, ap₂, refl, ℕ, ◌+◌, ◌%◌, ◌^◌, Bool, List, [], Option, Some, None}
+use Rattle.std.proofs.Common.{◌≡◌, inl, inr, ◌∙◌, sym, ap, ap₂, refl, ℕ, ◌+◌, ◌%◌, ◌^◌, Bool, List, Option, Some, None}
 use Rattle.std.specs.Prelude.{Contains, option_map}
 use Rattle.std.specs.Option.{option_or}
 use Rattle.p8_tree.specs.declared.faults.Fault.{Fault}
@@ -22,14 +22,15 @@ use Rattle.p8_names.specs.Faults.{IsNameFault, of_constant}
 use Rattle.p8_names.specs.Settings as settings
 use Rattle.p8_names.specs.Settings.{outside}
 use Rattle.p8_names.proofs.Equal.{settings_equal}
-use Rattle.p8_prop.specs.Names.{added, worth, IsSetting, IsChildOf}
+use Rattle.p8_prop.specs.Names.{IsSetting, IsChildOf}
+use Rattle.p8_prop.proofs.Worth.{added, worth, IsSettingBySums, setting-from}
 use Rattle.p8_prop.proofs.Naming.{other-fault, All, all-of, says-file, found, is-some}
 
 -- ---- one file
 
 -- t: any meanings that the equations allow; s: those that the file was accepted with
 module _ (file : Source) (children : Children) (top : Bool) (clean : (f : Fault) → ¬ IsNameFault file children top f) (s t : Setting)
-    (is : settings.IsSetting file children.items s) (said : IsSetting file children.items t) where
+    (is : settings.IsSetting file children.items s) (said : IsSettingBySums file children.items t) where
   abbrev o : Setting
   o = outside file children.items
 
@@ -93,7 +94,8 @@ HasOneSetting file children = (a b : Setting) → IsSetting file children a → 
 
 pub one-setting : (file : Source) (children : Children) (top : Bool) (s : Setting) → ((f : Fault) → ¬ IsNameFault file children top f)
     → settings.IsSetting file children.items s → HasOneSetting file children.items
-one-setting file children top s clean is a b p q = setting-it file children top clean s a is p ∙ sym (setting-it file children top clean s b is q)
+one-setting file children top s clean is a b p q =
+    setting-it file children top clean s a is (setting-from a p) ∙ sym (setting-it file children top clean s b is (setting-from b q))
 
 -- so its users see one thing
 pub one-child : (file : Source) (children : List Child) (c d : Child) → HasOneSetting file children → IsChildOf file children c

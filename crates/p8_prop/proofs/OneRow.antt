@@ -13,8 +13,8 @@ use Rattle.p8_grammar.proofs.Live.{one_tree}
 use Rattle.p8_lines.specs.Tokens.{LineToken, word, lexeme, terms, piece}
 use Rattle.p8_lines.proofs.Splits.{Compared, same, beyond, short, compare}
 use Rattle.p8_lines.proofs.Ways.{terms_append}
-use Rattle.p8_prop.specs.Sources as said
-use Rattle.p8_prop.specs.Sources.{Spelling}
+use Rattle.p8_prop.proofs.Reading as said
+use Rattle.p8_prop.proofs.Reading.{Spelling}
 use Rattle.p8_prop.proofs.Barred.{Bars, Alike, no-longer}
 
 -- what a piece is to the table, where an expression stands by the word behind it, which state follows, and which is one of whole rows

@@ -12,7 +12,7 @@ use Rattle.p8_declarations.specs.Constants.{constants_of_row}
 use Rattle.p8_declarations.specs.Variables.{variables_of_row}
 use Rattle.p8_declarations.specs.Objects.{objects_of_row}
 use Rattle.p8_blocks.proofs.Pieces.{word_piece}
-use Rattle.p8_prop.specs.Sources.{data_of_row, IsSource}
+use Rattle.p8_prop.proofs.Reading.{data_of_row, IsSource}
 use Rattle.p8_prop.proofs.OneDeclaration.{constants-once, constants-apart, variables-once, variables-apart, objects-once, objects-apart, method-once}
 use Rattle.p8_prop.proofs.OneStatement.{statements-once, statements-apart, statements-not_blank}
 use Rattle.p8_prop.proofs.OneDatum.{data-once, data-apart}

@@ -18,8 +18,8 @@ use Rattle.p8_statements.specs.Rows.{◌▶◌, phrase, is_end, ended, ends, end
 use Rattle.p8_statements.specs.Statements.{maybe_value, counted, counting, counter, course_by, course_before, course, test, unless_in_range}
 use Rattle.p8_statements.specs.Statements.{is_last_colon, behind_value, tests_after, other_line, line, is_item, statement, kind_of_row}
 use Rattle.p8_blocks.proofs.Pieces.{word_piece}
-use Rattle.p8_prop.specs.Sources as said
-use Rattle.p8_prop.specs.Sources.{in_text}
+use Rattle.p8_prop.proofs.Reading as said
+use Rattle.p8_prop.proofs.Reading.{in_text}
 use Rattle.p8_prop.proofs.Barred.{Bars, Alike, begins-none}
 use Rattle.p8_prop.proofs.Marks.{Sort, a_name, a_text, a_word, sort, is_role, role-bars, closes-bars, is_block, block-bars, block-piece}
 use Rattle.p8_prop.proofs.OneRow.{Table, Reads, last, a_token, a_label, an_expression, IsClear, one, some-one, goes, run, reads}

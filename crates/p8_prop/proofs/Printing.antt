@@ -1,5 +1,5 @@
 -- What a call with the words of `raw` or `run` has written.
-use Rattle.std.proofs.Common.{◌≡◌, ◌∙◌, sym, ap, subst, refl, inl, inr, Bool, true, false, List, [], ◌∷◌, Option, Some, None, ℕ}
+use Rattle.std.proofs.Common.{◌≡◌, ◌∙◌, ◌⊎◌, sym, ap, subst, refl, inl, inr, Bool, true, false, List, [], ◌∷◌, Option, Some, None, ℕ}
 use Rattle.std.specs.Prelude.{codes}
 use Rattle.std.specs.Str.{bytes_eq}
 use Rattle.clap.specs.Walk.{Text}
@@ -10,8 +10,12 @@ use Rattle.p8_access.specs.declared.order.Turn.{Turn}
 use Rattle.p8_access.specs.Worlds.{World}
 use Rattle.p8_finish.specs.declared.finish.Finish.TheVariants.{Trace}
 use Rattle.p8_inputs.specs.declared.program.Format.{Format}
-use Rattle.p8_inputs.specs.declared.program.Format.TheVariants.{Memory, Image, Eeprom, Source}
+use Rattle.p8_inputs.specs.declared.program.Format.TheVariants.{Memory}
 use Rattle.p8_inputs.specs.Inputs.{IsProgram}
+use Rattle.p8_inputs.specs.Programs.{format_by, format_named}
+use Rattle.p8_commands.specs.declared.image_kind.ImageKind.{ImageKind}
+use Rattle.p8_commands.specs.declared.image_kind.ImageKind.TheVariants.{Binary, Eeprom}
+use Rattle.p8_commands.specs.Kinds.{kind_named}
 use Rattle.p8_inputs.specs.declared.stop.Stop.{Stop}
 use Rattle.p8_inputs.specs.declared.stop.Stop.TheVariants as stop
 use Rattle.p8_commands.specs.declared.table.Subcommand.TheVariants as named
@@ -22,11 +26,15 @@ use Rattle.p8_prop.specs.Headline as whole
 use Rattle.p8_prop.specs.Headline.{IsRun, IsHeadline}
 use Rattle.p8_prop.specs.Verdicts.{Outside, Verdict, unsaid, stopped, unexplained, bad, written, unwritten, stop_status, status_of, IsVerdict, IsOut}
 use Rattle.p8_prop.specs.Promises.{HasHeadline, Keeps}
-use Rattle.p8_prop.specs.Runs.{raw_app, run_app, value_in, format_said, IsRunOf, IsTraceOf, PrintsRaw, PrintsRun, PrintsHistory}
-use Rattle.p8_prop.specs.RunLaws.{AreOfRun, IsCommandOf, RunsPrintTheirHistory}
-use Rattle.p8_prop.proofs.Imaging.{told-by}
-use Rattle.p8_prop.proofs.OneTrace.{one-run, one-trace}
-use Rattle.p8_prop.proofs.SaidRuns.{said-raw, said-run, command-raw, command-run}
+use Rattle.p8_prop.specs.Images.{Coding, Plain}
+use Rattle.p8_prop.specs.Runs as sentence
+use Rattle.p8_prop.specs.Runs.{SayRun, raw_app, run_app, value_in, IsRunOf, IsTraceOf, PrintsRaw, PrintsRun}
+use Rattle.p8_prop.specs.Shorts.{Short}
+use Rattle.p8_prop.specs.RunLaws.{AreOfRun, IsCommandOf, Prints, RunsPrintTheirHistory}
+use Rattle.p8_prop.proofs.Imaging.{coding, told-by}
+use Rattle.p8_prop.proofs.OneProject.{one-start}
+use Rattle.p8_prop.proofs.OneTrace.{script-of, from-file, one-trace}
+use Rattle.p8_prop.proofs.SaidRuns.{one-run, format-same, said-raw, said-run, command-raw, command-run}
 
 -- ---- status 0 tells that a text was written
 
@@ -101,21 +109,24 @@ said-some words command is (inr same) e = alone-some (command_of words) is (sym 
 
 -- ---- and its text is the trace of its history
 
-run-of : (files : Files) (format : Format) (file bytes : List ℕ) (w : World) (past : List Turn) → IsProgram files format file bytes
-    → whole.IsToldBySource files format file bytes w past → IsRunOf files format file bytes w past
-run-of files Memory file bytes w past program told = program.0
-run-of files Image file bytes w past program told = program.0
-run-of files Eeprom file bytes w past program told = program.0
-run-of files (Source short) file bytes w past program told = told-by files short file bytes w past told
+-- what is run, by the ending of a file's name
+run-of : (short : Bool) (files : Files) (kind : Option ImageKind) (file bytes : List ℕ) (w : World) (past : List Turn)
+    → IsProgram files (format_by short kind) file bytes → whole.IsToldBySource files (format_by short kind) file bytes w past
+    → IsRunOf (coding short) files (format_by short kind) file bytes w past
+run-of short files None file bytes w past program told = told-by files short file bytes w past told
+run-of short files (Some Binary) file bytes w past program told = program.0
+run-of short files (Some Eeprom) file bytes w past program told = program.0
 
-traced : (files : Files) (format : Format) (run : Running) (text : List ℕ) → IsRun files format run (Trace run.dump) text → IsTraceOf files format run text
-traced files format run text (w, past, is, complete, told) = record {
+traced : (Coded : Coding) (files : Files) (format : Format) (run : Running) (text : List ℕ)
+    → ((bytes : List ℕ) (w : World) (past : List Turn) → IsProgram files format run.file bytes → whole.IsToldBySource files format run.file bytes w past
+    → IsRunOf Coded files format run.file bytes w past) → IsRun files format run (Trace run.dump) text → IsTraceOf Coded files format run text
+traced Coded files format run text runs (w, past, is, complete, told) = record {
   world = w;
   past = past;
   bytes = is.bytes;
   script = is.script;
-  program = run-of files format run.file is.bytes w past is.program is.source;
-  pins = is.pins;
+  program = runs is.bytes w past is.program is.source;
+  pins = script-of files run.script is.script is.pins;
   begins = is.world;
   history = is.history;
   told = told;
@@ -127,29 +138,51 @@ prints-raw files words is text said headline =
     let it = said-raw words is said in
     let run = it.0 in
     let printed : IsHeadline files (RunMemory run) text = subst (λ (c : Command). IsHeadline files c text) (sym (same_Some _ _ it.2)) headline in
-    (run, it.1, traced files Memory run text printed)
+    (run, it.1, traced Plain files Memory run text (λ bytes w past program told. program.0) printed)
+
+-- by the ending of its name
+named-so : (Coded : Coding) (files : Files) (short : Bool) (run : Running) (text : List ℕ)
+    → IsTraceOf Coded files (format_named short run.file) run text → IsTraceOf Coded files (sentence.format_named short run.file) run text
+named-so Coded files short run text is =
+    subst (λ (format : Format). IsTraceOf Coded files format run text) (sym (format-same short run.file)) is
+
+-- with `--short` or without
+by-flag : (files : Files) (words : List Text) (run : Running) (text : List ℕ) → SayRun run_app words run → (short : Bool)
+    → has_flag (codes "short") (value_in run_app words) ≡ short → IsRun files (format_named short run.file) run (Trace run.dump) text
+    → PrintsRun false Plain files words text ⊎ PrintsRun true Short files words text
+by-flag files words run text say false flag printed =
+    inl (run, say, flag, named-so Plain files false run text (traced Plain files (format_named false run.file) run text (run-of false files (kind_named run.file) run.file) printed))
+by-flag files words run text say true flag printed =
+    inr (run, say, flag, named-so Short files true run text (traced Short files (format_named true run.file) run text (run-of true files (kind_named run.file) run.file) printed))
 
 prints-run : (files : Files) (words : List Text) (is : Command) (text : List ℕ) → said_to named.Run words ≡ Some is → IsHeadline files is text
-    → PrintsRun files words text
+    → PrintsRun false Plain files words text ⊎ PrintsRun true Short files words text
 prints-run files words is text said headline =
     let it = said-run words is said in
     let run = it.0 in
     let alone = has_flag (codes "alone") (value_in run_app words) in
     let short = has_flag (codes "short") (value_in run_app words) in
     let printed : IsHeadline files (RunProgram alone short run) text = subst (λ (c : Command). IsHeadline files c text) (sym (same_Some _ _ it.2)) headline in
-    (run, it.1, traced files (format_said words run) run text printed)
+    by-flag files words run text it.1 short refl printed
+
+either : (files : Files) (word : Text) (words : List Text) (text : List ℕ) → word ≡ codes "run"
+    → PrintsRun false Plain files (word ∷ words) text ⊎ PrintsRun true Short files (word ∷ words) text
+    → Prints files (word ∷ words) text
+either files word words text is (inl plain) = inl (inr (is, plain))
+either files word words text is (inr short) = inr (is, short)
 
 prints : (files : Files) (words : List Text) (is : Command) (text : List ℕ) → AreOfRun words → command_of words ≡ Some is → IsHeadline files is text
-    → PrintsHistory files words text
+    → Prints files words text
 prints files [] is text run said headline = absurd run
 prints files (word ∷ words) is text (inl raw) said headline =
     let same : command_of (codes "raw" ∷ words) ≡ Some is = ap (λ (w : Text). command_of (w ∷ words)) (sym raw) ∙ said in
     let told = prints-raw files (codes "raw" ∷ words) is text (sym (command-raw words) ∙ same) headline in
-    inl (raw, subst (λ (w : Text). PrintsRaw files (w ∷ words) text) (sym raw) told)
+    inl (inl (raw, subst (λ (w : Text). PrintsRaw files (w ∷ words) text) (sym raw) told))
 prints files (word ∷ words) is text (inr run) said headline =
     let same : command_of (codes "run" ∷ words) ≡ Some is = ap (λ (w : Text). command_of (w ∷ words)) (sym run) ∙ said in
     let told = prints-run files (codes "run" ∷ words) is text (sym (command-run words) ∙ same) headline in
-    inr (run, subst (λ (w : Text). PrintsRun files (w ∷ words) text) (sym run) told)
+    either files word words text run
+    (subst (λ (w : Text). PrintsRun false Plain files (w ∷ words) text ⊎ PrintsRun true Short files (w ∷ words) text) (sym run) told)
 
 -- ---- and they print nothing else
 
@@ -163,34 +196,45 @@ module _ (files : List ℕ → Option (List ℕ)) where
       let it = said-raw words is said in
       let printed : IsHeadline (Some files) (RunMemory it.0) text =
       subst (λ (c : Command). IsHeadline (Some files) c text) (sym (same_Some _ _ it.2)) headline in
-      let same : run ≡ it.0 = one-run (value_in raw_app words) it.0 run it.1.1 says.1 in
-      one-trace files Memory it.0 text other printed (subst (λ (run : Running). IsTraceOf (Some files) Memory run other) same traced)
+      let same : run ≡ it.0 = one-run raw_app words it.0 run it.1 says in
+      one-trace files Plain Memory it.0 text other
+      (λ bytes more w v past late program told is. one-start (files it.0.file) bytes more program.0 is) printed
+      (subst (λ (run : Running). IsTraceOf Plain (Some files) Memory run other) same traced)
 
-  only-run : (words : List Text) (is : Command) (text other : List ℕ) → said_to named.Run words ≡ Some is → IsHeadline (Some files) is text
-      → PrintsRun (Some files) words other → other ≡ text
-  only-run words is text other said headline (run, says, traced) =
+  -- with this choice of codes
+  only-run : (short : Bool) (words : List Text) (is : Command) (text other : List ℕ) → said_to named.Run words ≡ Some is → IsHeadline (Some files) is text
+      → PrintsRun short (coding short) (Some files) words other → other ≡ text
+  only-run short words is text other said headline (run, says, flag, traced) =
       let it = said-run words is said in
       let alone = has_flag (codes "alone") (value_in run_app words) in
-      let short = has_flag (codes "short") (value_in run_app words) in
-      let printed : IsHeadline (Some files) (RunProgram alone short it.0) text =
+      let printed : IsHeadline (Some files) (RunProgram alone (has_flag (codes "short") (value_in run_app words)) it.0) text =
       subst (λ (c : Command). IsHeadline (Some files) c text) (sym (same_Some _ _ it.2)) headline in
-      let same : run ≡ it.0 = one-run (value_in run_app words) it.0 run it.1.1 says.1 in
-      one-trace files (format_said words it.0) it.0 text other printed
-      (subst (λ (run : Running). IsTraceOf (Some files) (format_said words run) run other) same traced)
+      let so : IsRun (Some files) (format_named short it.0.file) it.0 (Trace it.0.dump) text =
+      subst (λ (short : Bool). IsRun (Some files) (format_named short it.0.file) it.0 (Trace it.0.dump) text) flag printed in
+      let same : run ≡ it.0 = one-run run_app words it.0 run it.1 says in
+      let taken : IsTraceOf (coding short) (Some files) (format_named short run.file) run other =
+      subst (λ (format : Format). IsTraceOf (coding short) (Some files) format run other) (format-same short run.file) traced in
+      one-trace files (coding short) (format_named short it.0.file) it.0 text other (from-file files short (kind_named it.0.file) it.0.file) so
+      (subst (λ (run : Running). IsTraceOf (coding short) (Some files) (format_named short run.file) run other) same taken)
 
   only : (words : List Text) (is : Command) (text other : List ℕ) → AreOfRun words → command_of words ≡ Some is → IsHeadline (Some files) is text
-      → PrintsHistory (Some files) words other → other ≡ text
+      → Prints (Some files) words other → other ≡ text
   only [] is text other run said headline printed = absurd run
-  only (word ∷ words) is text other (inl raw) said headline (inl (again, printed)) =
+  only (word ∷ words) is text other (inl raw) said headline (inl (inl (again, printed))) =
       let same : command_of (codes "raw" ∷ words) ≡ Some is = ap (λ (w : Text). command_of (w ∷ words)) (sym raw) ∙ said in
       only-raw (codes "raw" ∷ words) is text other (sym (command-raw words) ∙ same) headline
       (subst (λ (w : Text). PrintsRaw (Some files) (w ∷ words) other) raw printed)
+  only (word ∷ words) is text other (inl raw) said headline (inl (inr (run, printed))) = absurd (apart (sym raw ∙ run))
   only (word ∷ words) is text other (inl raw) said headline (inr (run, printed)) = absurd (apart (sym raw ∙ run))
-  only (word ∷ words) is text other (inr run) said headline (inl (raw, printed)) = absurd (apart (sym raw ∙ run))
+  only (word ∷ words) is text other (inr run) said headline (inl (inl (raw, printed))) = absurd (apart (sym raw ∙ run))
+  only (word ∷ words) is text other (inr run) said headline (inl (inr (again, printed))) =
+      let same : command_of (codes "run" ∷ words) ≡ Some is = ap (λ (w : Text). command_of (w ∷ words)) (sym run) ∙ said in
+      only-run false (codes "run" ∷ words) is text other (sym (command-run words) ∙ same) headline
+      (subst (λ (w : Text). PrintsRun false Plain (Some files) (w ∷ words) other) run printed)
   only (word ∷ words) is text other (inr run) said headline (inr (again, printed)) =
       let same : command_of (codes "run" ∷ words) ≡ Some is = ap (λ (w : Text). command_of (w ∷ words)) (sym run) ∙ said in
-      only-run (codes "run" ∷ words) is text other (sym (command-run words) ∙ same) headline
-      (subst (λ (w : Text). PrintsRun (Some files) (w ∷ words) other) run printed)
+      only-run true (codes "run" ∷ words) is text other (sym (command-run words) ∙ same) headline
+      (subst (λ (w : Text). PrintsRun true Short (Some files) (w ∷ words) other) run printed)
 
 pub runs-print : RunsPrintTheirHistory
 runs-print o words command run said keeps =
@@ -200,5 +244,5 @@ runs-print o words command run said keeps =
       it.3,
       prints o.shelf.files words it.0 it.1 run is it.4,
       λ files other tells printed. only files words it.0 it.1 other run is (subst (λ (shelf : Files). IsHeadline shelf it.0 it.1) tells it.4)
-          (subst (λ (shelf : Files). PrintsHistory shelf words other) tells printed),
+          (subst (λ (shelf : Files). Prints shelf words other) tells printed),
     )

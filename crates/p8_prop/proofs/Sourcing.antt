@@ -1,15 +1,14 @@
--- The files of an accepted project are those of the sentence, within the limits of the profile.
+-- The sources of an accepted project are sources without the limits of the profile.
 use Rattle.std.proofs.Common.{◌≡◌, ◌∙◌, ap, ℕ, List, Bool, true, false, Option, Some, None, refl, map}
 use Rattle.std.specs.Prelude.{IsTrue, if◌then◌else◌}
 use Rattle.std.specs.List.{list_all}
 use Rattle.p8_tree.specs.Sources as sources
 use Rattle.p8_tree.specs.Sources.{BlockTree, Source}
-use Rattle.p8_tree.specs.Projects.{NamedSource}
 use Rattle.p8_lexer.specs.Pieces.{Piece}
 use Rattle.p8_columns.specs.Lines as lines
 use Rattle.p8_lines.specs.declared.state.LineState.{LineState}
 use Rattle.p8_lines.specs.declared.state.LineState.TheVariants as state
-use Rattle.p8_lines.specs.Tokens.{LineToken}
+use Rattle.p8_lines.specs.Tokens.{LineToken, line_token}
 use Rattle.p8_lines.proofs.Readings.{leads_row}
 use Rattle.p8_blocks.specs.Values.{begins_line}
 use Rattle.p8_blocks.specs.Files as files
@@ -18,11 +17,10 @@ use Rattle.p8_declarations.specs.Constants.{constants_of_row}
 use Rattle.p8_declarations.specs.Variables.{variables_of_row}
 use Rattle.p8_declarations.specs.Objects.{objects_of_row}
 use Rattle.p8_declarations.specs.DataParts.{part_of_piece}
-use Rattle.p8_io.specs.Shelves.{Files}
 use Rattle.p8_objects.specs.Sources as within
-use Rattle.p8_objects.specs.Growing as growing
-use Rattle.p8_prop.specs.Sources as said
-use Rattle.p8_prop.specs.Sources.{is_known, data_of_row}
+use Rattle.p8_prop.proofs.Reading as said
+use Rattle.p8_prop.proofs.Reading.{is_known, data_of_row}
+use Rattle.p8_prop.proofs.SaidCutting.{tokens-to}
 use Rattle.p8_prop.proofs.Lining.{outer, starts, is_end, declared-line, head-line, text-line, data-head-line, data-line, head-known, line-known}
 
 -- ---- lines
@@ -87,9 +85,9 @@ file (files.first rest) = said.first (con-lines rest)
 file (files.one_more before last) = said.one_more (file before) (block last)
 
 pub source : {bytes : List ℕ} {s : Source} → within.IsSource bytes s → said.IsSource bytes s
-source is = record { whole = is.reads.short; tokens = is.reads.tokens; cut = is.reads.cut; is = file is.reads.is.0 }
-
-pub grows : {shelf : Files} {top : List ℕ} {all whole : List NamedSource} → growing.GrowsTo shelf top all whole → said.GrowsTo shelf top all whole
-grows (growing.first_file bytes s has is rest) = said.first_file bytes s has (source is) (grows rest)
-grows (growing.new_file f x bytes s next new room has is rest) = said.new_file f x bytes s next new has (source is) (grows rest)
-grows (growing.whole some none) = said.whole some none
+source {bytes = bytes} is = record {
+  whole = is.reads.short;
+  tokens = map (line_token bytes) is.reads.tokens;
+  cut = tokens-to bytes is.reads.tokens is.reads.cut;
+  is = file is.reads.is.0;
+}

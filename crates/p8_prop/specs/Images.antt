@@ -1,6 +1,6 @@
--- What the image of a project is, with short code or without: the kind of each name, the bytes of each DAT, the code of each method, and the objects
+-- What the image of a project is, by what codes its methods have: the kind of each name, the bytes of each DAT, the code of each method, and the objects
 -- of which it is laid out. Why a source is refused is no part of it: what is accepted has such an image (this project's profile).
-use Rattle.std.specs.Prelude.{◌≡◌, ℕ, ◌*◌, ◌≤◌, Bool, true, false, List, length, map, slice_get, Some}
+use Rattle.std.specs.Prelude.{◌≡◌, ℕ, ◌*◌, ◌≤◌, List, length, map, slice_get, Some}
 use Rattle.p8_tree.specs.Sources.{MethodTree, Source}
 use Rattle.p8_tree.specs.Projects.{NamedSource}
 use Rattle.p8_tree.specs.Statements.{Statements}
@@ -13,13 +13,10 @@ use Rattle.p8_names.specs.Kinds.{kinds, methods, numbered}
 use Rattle.p8_dat.specs.Blocks.{dat_bytes, placed_lines}
 use Rattle.p8_dat.specs.Labels.{labels_of}
 use Rattle.p8_gen.specs.Methods.{bytes_of, method_code}
-use Rattle.p8_gen.specs.Names.{Names, widened, wide_in}
+use Rattle.p8_gen.specs.Names.{Names}
 use Rattle.p8_gen.specs.Uses.{use_of}
 use Rattle.p8_stmt.specs.declared.code.MethodCode.{MethodCode}
-use Rattle.p8_stmt.specs.Jumps.{IsLeast}
 use Rattle.p8_stmt.specs.Methods.{longs_in, use_in}
-use Rattle.p8_meaning.specs.Constants.{constants_in}
-use Rattle.p8_meaning.specs.Folding.{folded_body}
 use Rattle.p8_image.specs.declared.clocks.Clock.{Clock}
 use Rattle.p8_image.specs.declared.parts.ObjectPart.{ObjectPart}
 use Rattle.p8_image.specs.Layout.{image_of}
@@ -47,39 +44,37 @@ pub record HasCode (names : Names) (m : MethodTree) (body : Statements) (code : 
   pub locals : code.locals ≡ 4 * longs_in names.constants m.locals
   pub strings : map use_of code.strings ≡ map (use_in (method_code names body)) (method_code names body).texts
 
--- its short code: that of the folded body, with the least set of jumps that have two bytes for their offset
-pub record HasShortCode (names : Names) (m : MethodTree) (body : Statements) (code : MethodCode) : Type 0 where
-  pub widths : List Bool
-  pub least : IsLeast names body widths
-  pub code_is : HasCode (widened names (wide_in widths)) m body code
+-- what codes a method may have, by what names mean where a constant is needed and by what they mean in its code
+abbrev pub Coding : Type 1
+Coding = Setting → Names → MethodTree → MethodCode → Type 0
 
-abbrev pub HasCodeBy : (short : Bool) → Setting → Names → MethodTree → MethodCode → Type 0
-HasCodeBy false setting names m code = HasCode names m m.body code
-HasCodeBy true setting names m code = HasShortCode names m (folded_body (constants_in setting) m.body) code
+-- the code of its body
+abbrev pub Plain : Coding
+Plain setting names m code = HasCode names m m.body code
 
 -- the codes of its methods, in the order of their numbers
-pub record HasCodes (short : Bool) (source : Source) (children : Children) (x : CompiledFile) : Type 0 where
+pub record HasCodes (Coded : Coding) (source : Source) (children : Children) (x : CompiledFile) : Type 0 where
   pub count : length x.codes ≡ length (numbered (items source))
   pub each : (k : ℕ) (m : MethodTree) (code : MethodCode) → slice_get (numbered (items source)) k ≡ Some m → slice_get x.codes k ≡ Some code
-      → HasCodeBy short (setting_of children x) (method_names children x k m) m code
+      → Coded (setting_of children x) (method_names children x k m) m code
 
-pub record IsCompilation (short : Bool) (source : Source) (children : Children) (x : CompiledFile) : Type 0 where
+pub record IsCompilation (Coded : Coding) (source : Source) (children : Children) (x : CompiledFile) : Type 0 where
   pub names : HasKinds source children x.kinds
   pub dat : HasData source children x
-  pub codes : HasCodes short source children x
+  pub codes : HasCodes Coded source children x
 
 -- ---- a project
 
-pub record AreCompilations (short : Bool) (files : List NamedSource) (children : List Children) (xs : List CompiledFile) : Type 0 where
+pub record AreCompilations (Coded : Coding) (files : List NamedSource) (children : List Children) (xs : List CompiledFile) : Type 0 where
   pub count : length xs ≡ length files
   pub each : (i : ℕ) (file : NamedSource) (seen : Children) (x : CompiledFile) → IsFile files children i file seen → slice_get xs i ≡ Some x
-      → IsCompilation short file.tree seen x
+      → IsCompilation Coded file.tree seen x
 
 -- this is the image of its files, which are compiled so and have these objects
-pub record IsImageOf (short : Bool) (files : List NamedSource) (children : List Children) (xs : List CompiledFile) (objects : List ObjectPart)
+pub record IsImageOf (Coded : Coding) (files : List NamedSource) (children : List Children) (xs : List CompiledFile) (objects : List ObjectPart)
     (image : List ℕ) : Type 0 where
   pub seen : AreChildren files children
-  pub compiled : AreCompilations short files children xs
+  pub compiled : AreCompilations Coded files children xs
   pub laid_out : objects ≡ objects_of files children xs
   pub clock : Clock
   pub clock_is : clock_by xs ≡ Some clock

@@ -4,10 +4,17 @@ pub mod Headline
 pub mod Codes
 pub mod Verdicts
 pub mod Promises
+pub mod Words
+pub mod Tokens
+pub mod Cutting
+pub mod DeclaredLines
+pub mod DataLines
+pub mod StatementLines
 pub mod Sources
 pub mod Names
 pub mod Images
 pub mod Runs
+pub mod Shorts
 pub mod RunLaws
 pub mod Saved
 -- Machinery that only proofs need.

@@ -4,38 +4,33 @@
 --
 -- A file is blocks, one after the other. A block is its word in column 1 with what stands after it, and further lines. The lines of a method are its
 -- statements by their columns. Ends of lines may stand between lines.
-use Rattle.std.specs.Prelude.{◌≡◌, ◌⊎◌, ℕ, ◌<◌, ◌≤◌, Bool, true, false, ◌&&◌, not, if◌then◌else◌, List, [], ◌∷◌, ◌++◌, length, map, Option, Some, None, is_some, nat_lt}
-use Rattle.std.specs.List.{list_any, list_all}
+use Rattle.std.specs.Prelude.{◌≡◌, ◌⊎◌, ℕ, ◌≤◌, Bool, true, false, ◌&&◌, not, if◌then◌else◌, List, [], ◌∷◌, ◌++◌, length, map, Option, Some}
+use Rattle.std.specs.List.{list_any}
 use Rattle.p8_tree.specs.Expressions.{Tree}
 use Rattle.p8_tree.specs.Sources as sources
 use Rattle.p8_tree.specs.Sources.{Constant, Declared, Child, MethodTree, BlockTree, Source}
 use Rattle.p8_tree.specs.Projects.{NamedSource}
 use Rattle.p8_tree.specs.Statements.{Statements}
-use Rattle.p8_instr.specs.Mnemonics.{entry_of, mnemonics}
-use Rattle.p8_lexer.specs.declared.token.Token.{Token}
 use Rattle.p8_lexer.specs.declared.word.Word.{Word}
 use Rattle.p8_lexer.specs.declared.word.Word.TheVariants as words
-use Rattle.p8_lexer.specs.Words.{spelling}
-use Rattle.p8_lexer.specs.Lexing.{longest_file, AreTokens}
+use Rattle.p8_lexer.specs.Lexing.{longest_file}
 use Rattle.p8_lexer.specs.Pieces.{Piece, label, tree}
 use Rattle.p8_grammar.specs.Lexemes.{Setting, in_method, in_declaration, in_dat, in_data_item, in_action, name_in}
 use Rattle.p8_grammar.specs.Grammar.{IsExpression}
 use Rattle.p8_columns.specs.Lines as lines
 use Rattle.p8_columns.specs.Lines.{Kind}
 use Rattle.p8_columns.specs.Blocks.{AreStatements}
-use Rattle.p8_lines.specs.Signs.{is_size}
-use Rattle.p8_lines.specs.Tokens.{LineToken, all_tokens, word, lexeme, piece, terms}
-use Rattle.p8_declarations.specs.Constants.{constants_of_row}
-use Rattle.p8_declarations.specs.Variables.{variables_of_row}
-use Rattle.p8_declarations.specs.Objects.{objects_of_row}
-use Rattle.p8_declarations.specs.Methods.{method_of_row}
-use Rattle.p8_declarations.specs.DataParts.{Part, other, text, part_of_piece}
-use Rattle.p8_statements.specs.Statements.{kind_of_row}
-use Rattle.p8_blocks.specs.Files.{lines_of_row, IsHead, method_word, first_block}
+use Rattle.p8_lines.specs.Tokens.{LineToken, with_end}
+use Rattle.p8_blocks.specs.Files.{method_word, first_block}
 use Rattle.p8_io.specs.Shelves.{Files}
-use Rattle.p8_objects.specs.Lists.{HasOne}
-use Rattle.p8_objects.specs.Projects.{IsIn, HasOpen, IsNext}
+use Rattle.p8_objects.specs.Projects.{IsIn}
 use Rattle.p8_objects.specs.Outcomes.{HasBytes, named}
+use Rattle.p8_names.specs.Mentions.{mentions}
+use Rattle.p8_prop.specs.Cutting.{AreTokens}
+use Rattle.p8_prop.specs.Tokens.{is_size, word, lexeme, piece, terms, IsHead}
+use Rattle.p8_prop.specs.DeclaredLines.{constants_of, variables_of, objects_of, method_of}
+use Rattle.p8_prop.specs.DataLines.{lines_of}
+use Rattle.p8_prop.specs.StatementLines.{kind_of}
 
 -- ---- lines
 
@@ -79,15 +74,6 @@ in_data before w = if list_any is_size before && not (is_open before) then in_da
 abbrev pub IsLine : {X : Type 0} → Spelling → (List Piece → Option X) → X → List LineToken → Type 0
 IsLine spelled value x ts = (row : List Piece) × Row spelled [] row ts × (value row ≡ Some x)
 
--- a line of DAT, in which what isn't a word of DAT itself is that of an instruction, and a string of one character is an expression
-abbrev pub is_known : Part → Bool
-is_known (other w p) = is_some (entry_of mnemonics (spelling w))
-is_known (text t p) = nat_lt 1 (length t)
-is_known x = true
-
-abbrev pub data_of_row : List Piece → Option (List sources.Line)
-data_of_row row = if list_all is_known (map part_of_piece row) then lines_of_row row else None
-
 -- the lines of a block that isn't a method, with all that they declare
 pub data Declare {X : Type 0} (spelled : Spelling) (value : List Piece → Option (List X)) : List X → List LineToken → Type 0 where
   no_line : Declare spelled value [] []
@@ -99,7 +85,7 @@ pub data Declare {X : Type 0} (spelled : Spelling) (value : List Piece → Optio
 pub data AreLines : List lines.Line → List LineToken → Type 0 where
   no_line : AreLines [] []
   a_blank : {ls : List lines.Line} {ts : List LineToken} (t : LineToken) → word t ≡ words.LineEnd → AreLines ls ts → AreLines ls (ts ++ t ∷ [])
-  a_line : {ls : List lines.Line} {ts us : List LineToken} {k : Kind} (t : LineToken) → IsLine in_text kind_of_row k (t ∷ us) → AreLines ls ts
+  a_line : {ls : List lines.Line} {ts us : List LineToken} {k : Kind} (t : LineToken) → IsLine in_text kind_of k (t ∷ us) → AreLines ls ts
       → AreLines (ls ++ lines.line t.place k ∷ []) (ts ++ t ∷ us)
 
 -- ---- blocks
@@ -110,42 +96,43 @@ with_body m ss = record m { body = ss }
 
 -- these tokens are this block
 pub data IsBlock : BlockTree → List LineToken → Type 0 where
-  con : {xs ys : List Constant} {us vs : List LineToken} (t : LineToken) → IsHead words.Con t → IsLine declared constants_of_row xs us
-      → Declare declared constants_of_row ys vs → IsBlock (sources.Con (xs ++ ys)) (t ∷ (us ++ vs))
-  var : {xs ys : List Declared} {us vs : List LineToken} (t : LineToken) → IsHead words.Var t → IsLine declared variables_of_row xs us
-      → Declare declared variables_of_row ys vs → IsBlock (sources.Var (xs ++ ys)) (t ∷ (us ++ vs))
-  obj : {xs ys : List Child} {us vs : List LineToken} (t : LineToken) → IsHead words.Obj t → IsLine declared objects_of_row xs us
-      → Declare declared objects_of_row ys vs → IsBlock (sources.Obj (xs ++ ys)) (t ∷ (us ++ vs))
-  dat : {xs ys : List sources.Line} {us vs : List LineToken} (t : LineToken) → IsHead words.Dat t → IsLine in_data data_of_row xs us
-      → Declare in_data data_of_row ys vs → IsBlock (sources.Dat (xs ++ ys)) (t ∷ (us ++ vs))
+  con : {xs ys : List Constant} {us vs : List LineToken} (t : LineToken) → IsHead words.Con t → IsLine declared constants_of xs us
+      → Declare declared constants_of ys vs → IsBlock (sources.Con (xs ++ ys)) (t ∷ (us ++ vs))
+  var : {xs ys : List Declared} {us vs : List LineToken} (t : LineToken) → IsHead words.Var t → IsLine declared variables_of xs us
+      → Declare declared variables_of ys vs → IsBlock (sources.Var (xs ++ ys)) (t ∷ (us ++ vs))
+  obj : {xs ys : List Child} {us vs : List LineToken} (t : LineToken) → IsHead words.Obj t → IsLine declared objects_of xs us
+      → Declare declared objects_of ys vs → IsBlock (sources.Obj (xs ++ ys)) (t ∷ (us ++ vs))
+  dat : {xs ys : List sources.Line} {us vs : List LineToken} (t : LineToken) → IsHead words.Dat t → IsLine in_data lines_of xs us
+      → Declare in_data lines_of ys vs → IsBlock (sources.Dat (xs ++ ys)) (t ∷ (us ++ vs))
   method : {m : MethodTree} {ls : List lines.Line} {ss : Statements} {us vs : List LineToken} (public : Bool) (t : LineToken) → IsHead (method_word public) t
-      → IsLine headed (method_of_row public) m us → AreLines ls vs → AreStatements ss ls → IsBlock (sources.Method (with_body m ss)) (t ∷ (us ++ vs))
+      → IsLine headed (method_of public) m us → AreLines ls vs → AreStatements ss ls → IsBlock (sources.Method (with_body m ss)) (t ∷ (us ++ vs))
 
 -- ---- files
 
 -- these tokens are a file with this tree; what stands before the first block's word is a CON, if it declares anything
 pub data IsFile : Source → List LineToken → Type 0 where
-  first : {xs : List Constant} {ts : List LineToken} → Declare declared constants_of_row xs ts → IsFile (first_block xs) ts
+  first : {xs : List Constant} {ts : List LineToken} → Declare declared constants_of xs ts → IsFile (first_block xs) ts
   one_more : {bs : Source} {b : BlockTree} {ts us : List LineToken} → IsFile bs ts → IsBlock b us → IsFile (bs ++ b ∷ []) (ts ++ us)
 
 -- these bytes are cut into tokens, and those are a file with this tree
 pub record IsSource (bytes : List ℕ) (s : Source) : Type 0 where
   pub whole : length bytes ≤ longest_file
-  pub tokens : List Token
+  pub tokens : List LineToken
   pub cut : AreTokens bytes tokens
-  pub is : IsFile s (all_tokens bytes tokens)
+  pub is : IsFile s (with_end tokens)
 
 -- ---- projects
 
--- With these files so far, a project grows to all of these: by the top file, then by the file of the mention that comes next, until no mention is open.
-pub data GrowsTo (shelf : Files) (top : List ℕ) : (files all : List NamedSource) → Type 0 where
-  first_file : {all : List NamedSource} (bytes : List ℕ) (s : Source) → HasBytes shelf top bytes → IsSource bytes s
-      → GrowsTo shelf top (named top s ∷ []) all → GrowsTo shelf top [] all
-  new_file : {files all : List NamedSource} (f : NamedSource) (x : Child) (bytes : List ℕ) (s : Source)
-      → IsNext files f x → ¬ IsIn files x.file → HasBytes shelf x.file bytes → IsSource bytes s
-      → GrowsTo shelf top (files ++ named x.file s ∷ []) all → GrowsTo shelf top files all
-  whole : {files : List NamedSource} → 0 < length files → ¬ HasOne (HasOpen files) files → GrowsTo shelf top files files
+-- From these files, names that are mentioned and not looked at yet lead to all files of a project: a new file comes behind those that are there, and its
+-- mentions are looked at before what is left.
+pub data GrowsTo (shelf : Files) : (left : List (List ℕ)) → (files all : List NamedSource) → Type 0 where
+  whole : {files : List NamedSource} → GrowsTo shelf [] files files
+  old_file : {name : List ℕ} {left : List (List ℕ)} {files all : List NamedSource} → IsIn files name → GrowsTo shelf left files all
+      → GrowsTo shelf (name ∷ left) files all
+  new_file : {name : List ℕ} {left : List (List ℕ)} {files all : List NamedSource} (bytes : List ℕ) (s : Source) → ¬ IsIn files name
+      → HasBytes shelf name bytes → IsSource bytes s → GrowsTo shelf (map (λ x. x.file) (mentions s) ++ left) (files ++ named name s ∷ []) all
+      → GrowsTo shelf (name ∷ left) files all
 
 -- these are the files of the project of a top file
 abbrev pub IsProjectOf : Files → (top : List ℕ) → List NamedSource → Type 0
-IsProjectOf shelf top files = GrowsTo shelf top [] files
+IsProjectOf shelf top files = GrowsTo shelf (top ∷ []) [] files
