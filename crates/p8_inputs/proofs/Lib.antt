@@ -3,6 +3,7 @@ pub mod Logging
 pub mod Deciding
 pub mod Gathering
 mod Building
+pub mod Reading
 mod Coding
 mod Filing
 pub mod Stopping

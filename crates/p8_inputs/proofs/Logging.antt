@@ -1,5 +1,5 @@
 -- What was read for an ask, and for asks one after the other.
-use Rattle.std.proofs.Common.{◌≡◌, ℕ, inl, inr, refl, sym, subst, List, [], ◌∷◌, ◌++◌}
+use Rattle.std.proofs.Common.{ℕ, inl, inr, refl, subst, List, [], ◌∷◌, ◌++◌}
 use Rattle.p8_io.specs.Shelves.{Files, Log, WereRead}
 use Rattle.p8_commands.specs.declared.image_kind.ImageKind.{ImageKind}
 use Rattle.p8_commands.specs.declared.image_kind.ImageKind.TheVariants as kind
@@ -29,18 +29,12 @@ module _ (files : Files) (before now : Log) where
   bytes-read Eeprom file of read = read
   bytes-read (Source short) file of read = absurd of
 
-  kind-of_bytes : (k : ImageKind) → IsOfBytes (format_of k)
-  kind-of_bytes kind.Binary = tt
-  kind-of_bytes kind.Eeprom = tt
-
-  pub image-all_read : (k : ImageKind) (file : List ℕ) → WereRead before now (file ∷ []) → AreAllRead files (program (format_of k) file ∷ []) before now
-  image-all_read k file read = (now, bytes-all_read (format_of k) file (kind-of_bytes k) read, refl)
-
-  pub image-read : (k : ImageKind) (file : List ℕ) → MayBeRead file before now → AreReadSoFar files (program (format_of k) file ∷ []) before now
-  image-read k file read = inl (bytes-read (format_of k) file (kind-of_bytes k) read)
+pub kind-of_bytes : (k : ImageKind) → IsOfBytes (format_of k)
+kind-of_bytes kind.Binary = tt
+kind-of_bytes kind.Eeprom = tt
 
 -- where nothing is read, that is a beginning
-none-read_of : (files : Files) (ask : Ask) (log : Log) → IsReadSoFar files ask log log
+pub none-read_of : (files : Files) (ask : Ask) (log : Log) → IsReadSoFar files ask log log
 none-read_of files (program Memory file) log = unread file log
 none-read_of files (program Image file) log = unread file log
 none-read_of files (program Eeprom file) log = unread file log
@@ -73,9 +67,3 @@ some-more_read files (first ∷ asks) (x ∷ given) ask before between now gives
     inr (some.0, some.1, (x, gives.0), some-more_read files asks given ask some.0 between now gives.1 some.2 one)
 some-more_read files [] (x ∷ given) ask before between now gives none one = absurd gives
 some-more_read files (first ∷ asks) [] ask before between now gives some one = absurd gives
-
--- a beginning of what asks read is one of what more asks read, of which the first one may be a history's
-pub stopped-before : (files : Files) (asks : List Ask) (file : List ℕ) (before now : Log) → AreReadSoFar files asks before now → AreReadSoFar files (asks ++ history file ∷ []) before now
-stopped-before files [] file before now none = inl (subst (λ (log : Log). MayBeRead file before log) (sym none) (unread file before))
-stopped-before files (ask ∷ asks) file before now (inl first) = inl first
-stopped-before files (ask ∷ asks) file before now (inr (between, all, given, more)) = inr (between, all, given, stopped-before files asks file between now more)

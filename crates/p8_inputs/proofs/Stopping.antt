@@ -4,13 +4,10 @@ use Rattle.std.specs.Prelude.{Result, Ok, Err, IfErr, IsErrAnd}
 use Rattle.p8_io.specs.Counts.{Rose}
 use Rattle.p8_access.specs.Worlds.{Line}
 use Rattle.p8_io.specs.Shelves.{Files, IsLacking}
-use Rattle.p8_inputs.specs.declared.inputs.Inputs.{Inputs}
-use Rattle.p8_inputs.specs.declared.program.Format.{Format}
 use Rattle.p8_inputs.specs.declared.stop.Stop.{Stop}
 use Rattle.p8_inputs.specs.declared.stop.Stop.TheVariants.{Unread, Missing, NoMemory, Refused, BadProgram, BadScript, Unnamed}
 use Rattle.p8_inputs.specs.Inputs.{IsScriptFor}
-use Rattle.p8_inputs.specs.Asks.{Ask, program, script_ask, run_asks, check_asks, history, Given, bytes, lines, Gives, Give, StopsAtFile, StopsAtProgram, StopsAtScript, StopsFirst, Stops}
-use Rattle.p8_inputs.specs.Runs.{Begins}
+use Rattle.p8_inputs.specs.Asks.{Ask, script_ask, Given, lines, Gives, Give, StopsAtFile, StopsAtScript, StopsFirst, Stops}
 
 -- an error that is handed on
 pub handed-on : {T E : Type 0} (r : Result T E) (e : E) (P : E → Type 0) → IsErrAnd r (λ given. given ≡ e) → P e → IfErr r P
@@ -44,10 +41,6 @@ first-stops files before now asks (Refused name f size) stops = stops
 first-stops files before now asks (BadProgram name fault) stops = stops
 first-stops files before now asks (BadScript name line) stops = stops
 first-stops files before now asks (Unnamed file name) stops = stops
-
--- the program stops
-pub program-stops : (files : Files) (before now : ℕ) (format : Format) (file : List ℕ) (asks : List Ask) (stop : Stop) → StopsAtProgram files before now format file stop → Stops files before now (program format file ∷ asks) stop
-program-stops files before now format file asks stop stops = first-stops files before now (program format file ∷ asks) stop (inl stops)
 
 pub first-or_memory : (files : Files) (before now : ℕ) (asks : List Ask) (stop : Stop) → Stops files before now asks stop → (stop ≡ NoMemory) ⊎ StopsFirst files before now asks stop
 first-or_memory files before now asks (Unread name) stops = inr stops
@@ -84,7 +77,7 @@ file-stops files before now file (Unnamed other name) stops = absurd stops
 
 -- ---- asks behind others
 
-file-since : (files : Files) (before between now : ℕ) (file : List ℕ) (stop : Stop) → before ≤ between → StopsAtFile files between now file stop → StopsAtFile files before now file stop
+pub file-since : (files : Files) (before between now : ℕ) (file : List ℕ) (stop : Stop) → before ≤ between → StopsAtFile files between now file stop → StopsAtFile files before now file stop
 file-since files before between now file (Unread name) later stops = (stops.0, since before between now later stops.1)
 file-since files before between now file (Missing name mention) later stops = (stops.0, lacking-since before between now files name later stops.1, stops.2)
 file-since files before between now file NoMemory later stops = tt
@@ -105,11 +98,3 @@ module _ (files : Files) (before now : ℕ) where
 pub script-given : (files : Files) (named : Option (List ℕ)) (xs : List Line) → IsScriptFor files named xs → (given : List Given) × Give files (script_ask named) given
 script-given files None xs is = ([], tt)
 script-given files (Some file) xs is = (lines xs ∷ [], (is, tt))
-
--- the program and the pin script are there, and the history file stops
-pub history-stops : (files : Files) (before between now : ℕ) (format : Format) (file recorded : List ℕ) (named : Option (List ℕ)) (inputs : Inputs) (stop : Stop) → before ≤ between → Begins files format file named inputs → StopsAtFile files between now recorded stop → Stops files before now (check_asks format file named recorded) stop
-history-stops files before between now format file recorded named inputs stop later begins stops =
-    let script = script-given files named inputs.script begins.5 in
-    first-stops files before now (check_asks format file named recorded) stop
-    (behind files before now (run_asks format file named) (history recorded ∷ []) (bytes begins.0 ∷ script.0) stop (begins.1, script.1)
-    (inl (file-since files before between now recorded stop later stops)))

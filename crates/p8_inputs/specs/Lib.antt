@@ -6,6 +6,8 @@ pub mod Pages
 pub mod Inputs
 pub mod Asks
 pub mod Orders
+pub mod Seen
+pub mod Reads
 pub mod Stops
 pub mod Runs
 -- Machinery that only proofs need.

@@ -1,17 +1,15 @@
 // The code of a project or of an image for reading.
-ghost use Rattle.std.specs.Prelude.{◌≡◌, ◌≤◌, ◌∷◌, [], ℕ, List, None, length, IfOk, OnOk, IfErr};
+ghost use Rattle.std.specs.Prelude.{◌≡◌, ◌∷◌, [], ℕ, List, None, length, IfOk, OnOk, IfErr};
 ghost use Rattle.p8_tree.specs.Views.{named_sources_of};
-ghost use Rattle.p8_io.specs.Shelves.{WereRead};
-ghost use Rattle.p8_objects.specs.Orders.{ReadsInOrder};
 ghost use Rattle.p8_build.specs.Told.{IsRefusal};
 ghost use Rattle.p8_code.specs.Images.{image_code as code_in_image};
-ghost use Rattle.p8_inputs.specs.Asks.{StopsAtProgram, Stops, coding as coding_ask, program as program_ask};
+ghost use Rattle.p8_inputs.specs.Asks.{coding as coding_ask, program as program_ask};
 ghost use Rattle.p8_inputs.specs.Gathered.{IsWhole, StopsAtBuilding};
 ghost use Rattle.p8_inputs.specs.Inputs.{IsProgram};
-ghost use Rattle.p8_inputs.specs.Orders.{IsProjectRead, MayBeRead, AreAllRead, AreReadSoFar};
 ghost use Rattle.p8_inputs.specs.Programs.{binary_by, fault_of, format_of, IsFaultOf};
 ghost use Rattle.p8_inputs.specs.Sources.{IsCodeBy, IsCodeFrom};
-ghost use Rattle.p8_inputs.specs.declared.program.Format.TheVariants.{Source};
+ghost use Rattle.p8_inputs.specs.Reads.{ReadsFor, ReadsForAll};
+ghost use Rattle.p8_inputs.specs.Seen.{shelf_seen};
 
 use crate::inputs::bytes_in;
 use crate::sources::{project_in, stop_of_building};
@@ -66,11 +64,7 @@ fn source_code_in<S: Shelf>(
     shelf: &mut S,
 ) -> Result<Vec<u8>, Stop>
     ensures text { IfOk result (λ text. IsCodeFrom (S.files shelf.old) short file.now text.items) }
-    ensures stopped { IfErr result (StopsAtProgram (S.files shelf.old) (S.faults shelf.old) (S.faults shelf.new) (Source short) file.now) }
-    ensures all_read { IfOk result (λ _. IsProjectRead (S.files shelf.old) file.now (S.log shelf.old) (S.log shelf.new)) }
-    ensures in_order { ReadsInOrder (S.files shelf.old) file.now (S.log shelf.old) (S.log shelf.new) }
-    ensures later { S.faults shelf.old ≤ S.faults shelf.new }
-    ensures kept { S.files shelf.new ≡ S.files shelf.old }
+    ensures reads { ReadsFor (coding_ask short file.now) (shelf_seen S.files S.log S.faults shelf.old shelf.new) result }
 {
     let gathered = project_in(alloc, file, shelf)?;
     let text = code_of_project(alloc, short, &gathered);
@@ -105,11 +99,7 @@ fn image_code_in<S: Shelf>(
 ) -> Result<Vec<u8>, Stop>
     ensures text { IfOk result
         (λ text. (bytes : List ℕ) × IsProgram (S.files shelf.old) (format_of kind) file.now bytes × (text.items ≡ code_in_image (binary_by kind bytes))) }
-    ensures stopped { IfErr result (StopsAtProgram (S.files shelf.old) (S.faults shelf.old) (S.faults shelf.new) (format_of kind) file.now) }
-    ensures all_read { IfOk result (λ _. WereRead (S.log shelf.old) (S.log shelf.new) (file.now ∷ [])) }
-    ensures so_far { MayBeRead file.now (S.log shelf.old) (S.log shelf.new) }
-    ensures later { S.faults shelf.old ≤ S.faults shelf.new }
-    ensures kept { S.files shelf.new ≡ S.files shelf.old }
+    ensures reads { ReadsFor (program_ask (format_of kind) file.now) (shelf_seen S.files S.log S.faults shelf.old shelf.new) result }
 {
     let name = Text::copy_of(alloc, file.as_bytes())?;
     let bytes = bytes_in(alloc, file, shelf)?;
@@ -133,11 +123,7 @@ pub fn code_of_source<S: Shelf>(
     shelf: &mut S,
 ) -> Result<Vec<u8>, Stop>
     ensures text { IfOk result (λ text. IsCodeFrom (S.files shelf.old) short file.now text.items) }
-    ensures stopped { IfErr result (Stops (S.files shelf.old) (S.faults shelf.old) (S.faults shelf.new) (coding_ask short file.now ∷ [])) }
-    ensures all_read { IfOk result (λ _. AreAllRead (S.files shelf.old) (coding_ask short file.now ∷ []) (S.log shelf.old) (S.log shelf.new)) }
-    ensures so_far { AreReadSoFar (S.files shelf.old) (coding_ask short file.now ∷ []) (S.log shelf.old) (S.log shelf.new) }
-    ensures later { S.faults shelf.old ≤ S.faults shelf.new }
-    ensures kept { S.files shelf.new ≡ S.files shelf.old }
+    ensures reads { ReadsForAll (coding_ask short file.now ∷ []) (shelf_seen S.files S.log S.faults shelf.old shelf.new) result }
 {
     source_code_in(alloc, short, file, shelf)
 }
@@ -155,11 +141,7 @@ pub fn code_of_image<S: Shelf>(
 ) -> Result<Vec<u8>, Stop>
     ensures text { IfOk result
         (λ text. (bytes : List ℕ) × IsProgram (S.files shelf.old) (format_of kind) file.now bytes × (text.items ≡ code_in_image (binary_by kind bytes))) }
-    ensures stopped { IfErr result (Stops (S.files shelf.old) (S.faults shelf.old) (S.faults shelf.new) (program_ask (format_of kind) file.now ∷ [])) }
-    ensures all_read { IfOk result (λ _. AreAllRead (S.files shelf.old) (program_ask (format_of kind) file.now ∷ []) (S.log shelf.old) (S.log shelf.new)) }
-    ensures so_far { AreReadSoFar (S.files shelf.old) (program_ask (format_of kind) file.now ∷ []) (S.log shelf.old) (S.log shelf.new) }
-    ensures later { S.faults shelf.old ≤ S.faults shelf.new }
-    ensures kept { S.files shelf.new ≡ S.files shelf.old }
+    ensures reads { ReadsForAll (program_ask (format_of kind) file.now ∷ []) (shelf_seen S.files S.log S.faults shelf.old shelf.new) result }
 {
     image_code_in(alloc, kind, file, shelf)
 }

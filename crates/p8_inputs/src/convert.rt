@@ -1,10 +1,10 @@
 // An image as the other kind of file.
-ghost use Rattle.std.specs.Prelude.{◌≡◌, ◌≤◌, ◌∷◌, [], ℕ, List, None, IfOk, OnOk, IfErr};
-ghost use Rattle.p8_inputs.specs.Asks.{StopsAtProgram, Stops, program as program_ask};
-ghost use Rattle.p8_io.specs.Shelves.{WereRead};
+ghost use Rattle.std.specs.Prelude.{◌≡◌, ◌∷◌, [], ℕ, List, None, IfOk, OnOk, IfErr};
+ghost use Rattle.p8_inputs.specs.Asks.{program as program_ask};
 ghost use Rattle.p8_inputs.specs.Inputs.{IsProgram};
-ghost use Rattle.p8_inputs.specs.Orders.{MayBeRead, AreAllRead, AreReadSoFar};
 ghost use Rattle.p8_inputs.specs.Programs.{fault_of, format_of, other_file, IsFaultOf};
+ghost use Rattle.p8_inputs.specs.Reads.{ReadsFor, ReadsForAll};
+ghost use Rattle.p8_inputs.specs.Seen.{shelf_seen};
 
 use crate::inputs::bytes_in;
 use crate::stop::Stop;
@@ -45,11 +45,7 @@ fn other_in<S: Shelf>(
 ) -> Result<Vec<u8>, Stop>
     ensures text { IfOk result
         (λ text. (bytes : List ℕ) × IsProgram (S.files shelf.old) (format_of kind) file.now bytes × (text.items ≡ other_file kind bytes)) }
-    ensures stopped { IfErr result (StopsAtProgram (S.files shelf.old) (S.faults shelf.old) (S.faults shelf.new) (format_of kind) file.now) }
-    ensures all_read { IfOk result (λ _. WereRead (S.log shelf.old) (S.log shelf.new) (file.now ∷ [])) }
-    ensures so_far { MayBeRead file.now (S.log shelf.old) (S.log shelf.new) }
-    ensures later { S.faults shelf.old ≤ S.faults shelf.new }
-    ensures kept { S.files shelf.new ≡ S.files shelf.old }
+    ensures reads { ReadsFor (program_ask (format_of kind) file.now) (shelf_seen S.files S.log S.faults shelf.old shelf.new) result }
 {
     let name = Text::copy_of(alloc, file.as_bytes())?;
     let bytes = bytes_in(alloc, file, shelf)?;
@@ -76,11 +72,7 @@ pub fn other_image<S: Shelf>(
 ) -> Result<Vec<u8>, Stop>
     ensures text { IfOk result
         (λ text. (bytes : List ℕ) × IsProgram (S.files shelf.old) (format_of kind) file.now bytes × (text.items ≡ other_file kind bytes)) }
-    ensures stopped { IfErr result (Stops (S.files shelf.old) (S.faults shelf.old) (S.faults shelf.new) (program_ask (format_of kind) file.now ∷ [])) }
-    ensures all_read { IfOk result (λ _. AreAllRead (S.files shelf.old) (program_ask (format_of kind) file.now ∷ []) (S.log shelf.old) (S.log shelf.new)) }
-    ensures so_far { AreReadSoFar (S.files shelf.old) (program_ask (format_of kind) file.now ∷ []) (S.log shelf.old) (S.log shelf.new) }
-    ensures later { S.faults shelf.old ≤ S.faults shelf.new }
-    ensures kept { S.files shelf.new ≡ S.files shelf.old }
+    ensures reads { ReadsForAll (program_ask (format_of kind) file.now ∷ []) (shelf_seen S.files S.log S.faults shelf.old shelf.new) result }
 {
     other_in(alloc, kind, file, shelf)
 }

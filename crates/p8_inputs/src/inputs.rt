@@ -1,15 +1,16 @@
 // The files of a run.
-ghost use Rattle.std.specs.Prelude.{◌≡◌, ◌≤◌, ◌∷◌, [], length, Some, IfOk, IfErr};
+ghost use Rattle.std.specs.Prelude.{◌≤◌, ◌∷◌, [], length, Some, IfOk};
 ghost use Rattle.p8_access.specs.Proper.{IsProperOrigin};
-ghost use Rattle.p8_io.specs.Shelves.{IsRead, WereRead};
-ghost use Rattle.p8_inputs.specs.Asks.{StopsAtFile, StopsAtProgram, StopsAtScript, Stops, program as program_ask};
+ghost use Rattle.p8_io.specs.Shelves.{IsRead};
+ghost use Rattle.p8_inputs.specs.Asks.{program as program_ask, history as history_ask, script as one_script_ask};
 ghost use Rattle.p8_inputs.specs.Asks.{script_ask, run_asks, check_asks, most_sent, message as message_ask};
 ghost use Rattle.p8_inputs.specs.Inputs.{IsScriptFor};
 ghost use Rattle.p8_commands.specs.Naming.{name_of};
-ghost use Rattle.p8_inputs.specs.Orders.{IsAllRead, IsReadSoFar, MayBeRead, AreAllRead, AreReadSoFar};
 ghost use Rattle.p8_inputs.specs.Runs.{Begins};
 ghost use Rattle.p8_inputs.specs.Steps.{IsBootOf, IsOfBytes};
 ghost use Rattle.p8_inputs.specs.declared.program.Format.TheVariants.{Source};
+ghost use Rattle.p8_inputs.specs.Reads.{ReadsFor, ReadsForAll};
+ghost use Rattle.p8_inputs.specs.Seen.{shelf_seen};
 
 use crate::boots::{binary_boot, boot_of};
 use crate::program::{Format, Program};
@@ -45,11 +46,7 @@ pub struct Recorded {
 /// The bytes of a file that the words name.
 pub(crate) fn bytes_in<S: Shelf>(alloc: Global, file: &str, shelf: &mut S) -> Result<Vec<u8>, Stop>
     ensures read { IfOk result (λ bytes. IsRead (S.files shelf.old) file.now bytes.items) }
-    ensures stopped { IfErr result (StopsAtFile (S.files shelf.old) (S.faults shelf.old) (S.faults shelf.new) file.now) }
-    ensures all_read { IfOk result (λ _. WereRead (S.log shelf.old) (S.log shelf.new) (file.now ∷ [])) }
-    ensures so_far { MayBeRead file.now (S.log shelf.old) (S.log shelf.new) }
-    ensures later { S.faults shelf.old ≤ S.faults shelf.new }
-    ensures kept { S.files shelf.new ≡ S.files shelf.old }
+    ensures reads { ReadsFor (history_ask file.now) (shelf_seen S.files S.log S.faults shelf.old shelf.new) result }
 {
     let name = Text::copy_of(alloc, file.as_bytes())?;
     match shelf.read_named(alloc, file) {
@@ -68,12 +65,7 @@ fn file_in<S: Shelf>(alloc: Global, program: Program<'_>, shelf: &mut S) -> Resu
     requires { IsOfBytes program.format }
     ensures boot { IfOk result (IsBootOf (S.files shelf.old) program.entry.format program.entry.file.now) }
     ensures proper { IfOk result (λ boot. IsProperOrigin boot.first) }
-    ensures stopped { IfErr result (StopsAtProgram (S.files shelf.old) (S.faults shelf.old) (S.faults shelf.new) program.entry.format program.entry.file.now) }
-    ensures all_read { IfOk result (λ _. IsAllRead (S.files shelf.old) (program_ask program.entry.format program.entry.file.now) (S.log shelf.old)
-        (S.log shelf.new)) }
-    ensures so_far { IsReadSoFar (S.files shelf.old) (program_ask program.entry.format program.entry.file.now) (S.log shelf.old) (S.log shelf.new) }
-    ensures later { S.faults shelf.old ≤ S.faults shelf.new }
-    ensures kept { S.files shelf.new ≡ S.files shelf.old }
+    ensures reads { ReadsFor (program_ask program.entry.format program.entry.file.now) (shelf_seen S.files S.log S.faults shelf.old shelf.new) result }
 {
     let name = Text::copy_of(alloc, program.file.as_bytes())?;
     let bytes = bytes_in(alloc, program.file, shelf)?;
@@ -88,11 +80,7 @@ fn file_in<S: Shelf>(alloc: Global, program: Program<'_>, shelf: &mut S) -> Resu
 fn source_in<S: Shelf>(alloc: Global, short: bool, file: &str, shelf: &mut S) -> Result<Boot, Stop>
     ensures boot { IfOk result (IsBootOf (S.files shelf.old) (Source short) file.now) }
     ensures proper { IfOk result (λ boot. IsProperOrigin boot.first) }
-    ensures stopped { IfErr result (StopsAtProgram (S.files shelf.old) (S.faults shelf.old) (S.faults shelf.new) (Source short) file.now) }
-    ensures all_read { IfOk result (λ _. IsAllRead (S.files shelf.old) (program_ask (Source short) file.now) (S.log shelf.old) (S.log shelf.new)) }
-    ensures so_far { IsReadSoFar (S.files shelf.old) (program_ask (Source short) file.now) (S.log shelf.old) (S.log shelf.new) }
-    ensures later { S.faults shelf.old ≤ S.faults shelf.new }
-    ensures kept { S.files shelf.new ≡ S.files shelf.old }
+    ensures reads { ReadsFor (program_ask (Source short) file.now) (shelf_seen S.files S.log S.faults shelf.old shelf.new) result }
 {
     let image = image_in(alloc, short, file, shelf)?;
     let boot = binary_boot(alloc, &image)?;
@@ -107,12 +95,7 @@ pub(crate) fn boot_in<S: Shelf>(
 ) -> Result<Boot, Stop>
     ensures boot { IfOk result (IsBootOf (S.files shelf.old) program.entry.format program.entry.file.now) }
     ensures proper { IfOk result (λ boot. IsProperOrigin boot.first) }
-    ensures stopped { IfErr result (StopsAtProgram (S.files shelf.old) (S.faults shelf.old) (S.faults shelf.new) program.entry.format program.entry.file.now) }
-    ensures all_read { IfOk result (λ _. IsAllRead (S.files shelf.old) (program_ask program.entry.format program.entry.file.now) (S.log shelf.old)
-        (S.log shelf.new)) }
-    ensures so_far { IsReadSoFar (S.files shelf.old) (program_ask program.entry.format program.entry.file.now) (S.log shelf.old) (S.log shelf.new) }
-    ensures later { S.faults shelf.old ≤ S.faults shelf.new }
-    ensures kept { S.files shelf.new ≡ S.files shelf.old }
+    ensures reads { ReadsFor (program_ask program.entry.format program.entry.file.now) (shelf_seen S.files S.log S.faults shelf.old shelf.new) result }
 {
     match program.format {
         Format::Source { short } => source_in(alloc, short, program.file, shelf),
@@ -123,11 +106,7 @@ pub(crate) fn boot_in<S: Shelf>(
 /// The pin script of a file.
 fn script_in<S: Shelf>(alloc: Global, file: &str, shelf: &mut S) -> Result<PinScript, Stop>
     ensures script { IfOk result (IsScriptFor (S.files shelf.old) (Some file.now)) }
-    ensures stopped { IfErr result (StopsAtScript (S.files shelf.old) (S.faults shelf.old) (S.faults shelf.new) file.now) }
-    ensures all_read { IfOk result (λ _. WereRead (S.log shelf.old) (S.log shelf.new) (file.now ∷ [])) }
-    ensures so_far { MayBeRead file.now (S.log shelf.old) (S.log shelf.new) }
-    ensures later { S.faults shelf.old ≤ S.faults shelf.new }
-    ensures kept { S.files shelf.new ≡ S.files shelf.old }
+    ensures reads { ReadsFor (one_script_ask file.now) (shelf_seen S.files S.log S.faults shelf.old shelf.new) result }
 {
     let name = Text::copy_of(alloc, file.as_bytes())?;
     let bytes = bytes_in(alloc, file, shelf)?;
@@ -148,11 +127,7 @@ pub(crate) fn script_for<S: Shelf>(
     shelf: &mut S,
 ) -> Result<PinScript, Stop>
     ensures script { IfOk result (IsScriptFor (S.files shelf.old) (name_of script.entry)) }
-    ensures stopped { IfErr result (Stops (S.files shelf.old) (S.faults shelf.old) (S.faults shelf.new) (script_ask (name_of script.entry))) }
-    ensures all_read { IfOk result (λ _. AreAllRead (S.files shelf.old) (script_ask (name_of script.entry)) (S.log shelf.old) (S.log shelf.new)) }
-    ensures so_far { AreReadSoFar (S.files shelf.old) (script_ask (name_of script.entry)) (S.log shelf.old) (S.log shelf.new) }
-    ensures later { S.faults shelf.old ≤ S.faults shelf.new }
-    ensures kept { S.files shelf.new ≡ S.files shelf.old }
+    ensures reads { ReadsForAll (script_ask (name_of script.entry)) (shelf_seen S.files S.log S.faults shelf.old shelf.new) result }
 {
     match script {
         None => Ok(PinScript::empty(alloc)),
@@ -179,14 +154,8 @@ pub fn read_inputs<S: Shelf>(
 ) -> Result<Inputs, Stop>
     ensures begins { IfOk result (Begins (S.files shelf.old) program.entry.format program.entry.file.now (name_of script.entry)) }
     ensures proper { IfOk result (λ inputs. IsProperOrigin inputs.boot.first) }
-    ensures stopped { IfErr result
-        (Stops (S.files shelf.old) (S.faults shelf.old) (S.faults shelf.new) (run_asks program.entry.format program.entry.file.now (name_of script.entry))) }
-    ensures all_read { IfOk result (λ _. AreAllRead (S.files shelf.old) (run_asks program.entry.format program.entry.file.now (name_of script.entry))
-        (S.log shelf.old) (S.log shelf.new)) }
-    ensures so_far { AreReadSoFar (S.files shelf.old) (run_asks program.entry.format program.entry.file.now (name_of script.entry)) (S.log shelf.old)
-        (S.log shelf.new) }
-    ensures later { S.faults shelf.old ≤ S.faults shelf.new }
-    ensures kept { S.files shelf.new ≡ S.files shelf.old }
+    ensures reads { ReadsForAll (run_asks program.entry.format program.entry.file.now (name_of script.entry))
+        (shelf_seen S.files S.log S.faults shelf.old shelf.new) result }
 {
     let boot = boot_in(alloc, program, shelf)?;
     let script = script_for(alloc, script, shelf)?;
@@ -208,15 +177,8 @@ pub fn read_recorded<S: Shelf>(
     ensures begins { IfOk result (λ read. Begins (S.files shelf.old) program.entry.format program.entry.file.now (name_of script.entry) read.inputs) }
     ensures history { IfOk result (λ read. IsRead (S.files shelf.old) history.now read.history.items) }
     ensures proper { IfOk result (λ read. IsProperOrigin read.inputs.boot.first) }
-    ensures stopped { IfErr result
-        (Stops (S.files shelf.old) (S.faults shelf.old) (S.faults shelf.new)
-        (check_asks program.entry.format program.entry.file.now (name_of script.entry) history.now)) }
-    ensures all_read { IfOk result (λ _. AreAllRead (S.files shelf.old)
-        (check_asks program.entry.format program.entry.file.now (name_of script.entry) history.now) (S.log shelf.old) (S.log shelf.new)) }
-    ensures so_far { AreReadSoFar (S.files shelf.old) (check_asks program.entry.format program.entry.file.now (name_of script.entry) history.now)
-        (S.log shelf.old) (S.log shelf.new) }
-    ensures later { S.faults shelf.old ≤ S.faults shelf.new }
-    ensures kept { S.files shelf.new ≡ S.files shelf.old }
+    ensures reads { ReadsForAll (check_asks program.entry.format program.entry.file.now (name_of script.entry) history.now)
+        (shelf_seen S.files S.log S.faults shelf.old shelf.new) result }
 {
     let inputs = read_inputs(alloc, program, script, shelf)?;
     let history = bytes_in(alloc, history, shelf)?;
@@ -231,11 +193,7 @@ pub fn read_recorded<S: Shelf>(
 pub fn read_message<S: Shelf>(alloc: Global, file: &str, shelf: &mut S) -> Result<Vec<u8>, Stop>
     ensures read { IfOk result (λ bytes. IsRead (S.files shelf.old) file.now bytes.items) }
     ensures short { IfOk result (λ bytes. length bytes.items ≤ most_sent) }
-    ensures stopped { IfErr result (Stops (S.files shelf.old) (S.faults shelf.old) (S.faults shelf.new) (message_ask file.now ∷ [])) }
-    ensures all_read { IfOk result (λ _. AreAllRead (S.files shelf.old) (message_ask file.now ∷ []) (S.log shelf.old) (S.log shelf.new)) }
-    ensures so_far { AreReadSoFar (S.files shelf.old) (message_ask file.now ∷ []) (S.log shelf.old) (S.log shelf.new) }
-    ensures later { S.faults shelf.old ≤ S.faults shelf.new }
-    ensures kept { S.files shelf.new ≡ S.files shelf.old }
+    ensures reads { ReadsForAll (message_ask file.now ∷ []) (shelf_seen S.files S.log S.faults shelf.old shelf.new) result }
 {
     let name = Text::copy_of(alloc, file.as_bytes())?;
     let bytes = bytes_in(alloc, file, shelf)?;

@@ -1,15 +1,16 @@
 // What a page begins with.
-ghost use Rattle.std.specs.Prelude.{◌≡◌, ◌≤◌, [], false, List, IfOk, IfErr};
+ghost use Rattle.std.specs.Prelude.{◌≡◌, [], false, List, IfOk};
 ghost use Rattle.p8_access.specs.Proper.{IsProperOrigin};
 ghost use Rattle.p8_commands.specs.Naming.{name_of};
 ghost use Rattle.p8_page.specs.Page.{Block, blocks_text};
-ghost use Rattle.p8_inputs.specs.Asks.{StopsAtProgram, Stops, page_asks};
+ghost use Rattle.p8_inputs.specs.Asks.{page_asks, paging as paging_ask};
 ghost use Rattle.p8_inputs.specs.Legends.{IsLegendFrom, TellsNothing};
-ghost use Rattle.p8_inputs.specs.Orders.{IsProgramRead, IsProgramBegun, AreAllRead, AreReadSoFar};
 ghost use Rattle.p8_inputs.specs.Pages.{AreBlocksFrom};
 ghost use Rattle.p8_inputs.specs.Runs.{Begins};
 ghost use Rattle.p8_inputs.specs.Steps.{IsBootOf};
 ghost use Rattle.p8_inputs.specs.declared.program.Format.TheVariants.{Source};
+ghost use Rattle.p8_inputs.specs.Reads.{ReadsFor, ReadsForAll};
+ghost use Rattle.p8_inputs.specs.Seen.{shelf_seen};
 
 use crate::boots::binary_boot;
 use crate::inputs::{Inputs, boot_in, script_for};
@@ -47,11 +48,7 @@ fn source_shown<S: Shelf>(alloc: Global, file: &str, shelf: &mut S) -> Result<Sh
     ensures legend { IfOk result (λ read. IsLegendFrom (S.files shelf.old) (Source false) file.now read.legend) }
     ensures blocks { IfOk result (λ read. (blocks : List Block) × AreBlocksFrom (S.files shelf.old) (Source false) file.now blocks ×
         (read.project.items ≡ blocks_text blocks)) }
-    ensures stopped { IfErr result (StopsAtProgram (S.files shelf.old) (S.faults shelf.old) (S.faults shelf.new) (Source false) file.now) }
-    ensures all_read { IfOk result (λ _. IsProgramRead (S.files shelf.old) (Source false) file.now (S.log shelf.old) (S.log shelf.new)) }
-    ensures so_far { IsProgramBegun (S.files shelf.old) (Source false) file.now (S.log shelf.old) (S.log shelf.new) }
-    ensures later { S.faults shelf.old ≤ S.faults shelf.new }
-    ensures kept { S.files shelf.new ≡ S.files shelf.old }
+    ensures reads { ReadsFor (paging_ask (Source false) file.now) (shelf_seen S.files S.log S.faults shelf.old shelf.new) result }
 {
     let read = paged_in(alloc, file, shelf)?;
     let boot = binary_boot(alloc, &read.image)?;
@@ -68,11 +65,7 @@ fn other_shown<S: Shelf>(alloc: Global, program: Program<'_>, shelf: &mut S) -> 
     ensures proper { IfOk result (λ read. IsProperOrigin read.boot.first) }
     ensures legend { IfOk result (λ read. TellsNothing read.legend) }
     ensures blocks { IfOk result (λ read. read.project.items ≡ []) }
-    ensures stopped { IfErr result (StopsAtProgram (S.files shelf.old) (S.faults shelf.old) (S.faults shelf.new) program.entry.format program.entry.file.now) }
-    ensures all_read { IfOk result (λ _. IsProgramRead (S.files shelf.old) program.entry.format program.entry.file.now (S.log shelf.old) (S.log shelf.new)) }
-    ensures so_far { IsProgramBegun (S.files shelf.old) program.entry.format program.entry.file.now (S.log shelf.old) (S.log shelf.new) }
-    ensures later { S.faults shelf.old ≤ S.faults shelf.new }
-    ensures kept { S.files shelf.new ≡ S.files shelf.old }
+    ensures reads { ReadsFor (paging_ask program.entry.format program.entry.file.now) (shelf_seen S.files S.log S.faults shelf.old shelf.new) result }
 {
     let boot = boot_in(alloc, program, shelf)?;
     Ok(Shown {
@@ -93,11 +86,7 @@ fn program_shown<S: Shelf>(
     ensures legend { IfOk result (λ read. IsLegendFrom (S.files shelf.old) program.entry.format program.entry.file.now read.legend) }
     ensures blocks { IfOk result (λ read. (blocks : List Block) ×
         AreBlocksFrom (S.files shelf.old) program.entry.format program.entry.file.now blocks × (read.project.items ≡ blocks_text blocks)) }
-    ensures stopped { IfErr result (StopsAtProgram (S.files shelf.old) (S.faults shelf.old) (S.faults shelf.new) program.entry.format program.entry.file.now) }
-    ensures all_read { IfOk result (λ _. IsProgramRead (S.files shelf.old) program.entry.format program.entry.file.now (S.log shelf.old) (S.log shelf.new)) }
-    ensures so_far { IsProgramBegun (S.files shelf.old) program.entry.format program.entry.file.now (S.log shelf.old) (S.log shelf.new) }
-    ensures later { S.faults shelf.old ≤ S.faults shelf.new }
-    ensures kept { S.files shelf.new ≡ S.files shelf.old }
+    ensures reads { ReadsFor (paging_ask program.entry.format program.entry.file.now) (shelf_seen S.files S.log S.faults shelf.old shelf.new) result }
 {
     match program.format {
         Format::Source { short } => {
@@ -129,15 +118,8 @@ pub fn read_paged<S: Shelf>(
     ensures legend { IfOk result (λ read. IsLegendFrom (S.files shelf.old) program.entry.format program.entry.file.now read.legend) }
     ensures blocks { IfOk result (λ read. (blocks : List Block) ×
         AreBlocksFrom (S.files shelf.old) program.entry.format program.entry.file.now blocks × (read.project.items ≡ blocks_text blocks)) }
-    ensures stopped { IfErr result
-        (Stops (S.files shelf.old) (S.faults shelf.old) (S.faults shelf.new)
-        (page_asks program.entry.format program.entry.file.now (name_of script.entry))) }
-    ensures all_read { IfOk result (λ _. AreAllRead (S.files shelf.old)
-        (page_asks program.entry.format program.entry.file.now (name_of script.entry)) (S.log shelf.old) (S.log shelf.new)) }
-    ensures so_far { AreReadSoFar (S.files shelf.old) (page_asks program.entry.format program.entry.file.now (name_of script.entry))
-        (S.log shelf.old) (S.log shelf.new) }
-    ensures later { S.faults shelf.old ≤ S.faults shelf.new }
-    ensures kept { S.files shelf.new ≡ S.files shelf.old }
+    ensures reads { ReadsForAll (page_asks program.entry.format program.entry.file.now (name_of script.entry))
+        (shelf_seen S.files S.log S.faults shelf.old shelf.new) result }
 {
     let shown = program_shown(alloc, program, shelf)?;
     let script = script_for(alloc, script, shelf)?;

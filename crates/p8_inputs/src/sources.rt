@@ -1,8 +1,7 @@
 // What a source is built to.
-ghost use Rattle.std.specs.Prelude.{◌≡◌, ◌≤◌, ◌∷◌, ◌++◌, [], ℕ, Bool, false, List, Err, length, map, IfOk, IfErr, OnOk};
+ghost use Rattle.std.specs.Prelude.{◌≡◌, ◌∷◌, ◌++◌, [], ℕ, Bool, false, List, Err, length, map, IfOk, IfErr, OnOk};
 ghost use Rattle.p8_tree.specs.Views.{named_source_of, named_sources_of};
 ghost use Rattle.p8_io.specs.Shelves.{Files};
-ghost use Rattle.p8_objects.specs.Orders.{AreAllRead as FilesAreRead, ReadsInOrder};
 ghost use Rattle.p8_objects.specs.Outcomes.{shelved, Answers};
 ghost use Rattle.p8_objects.specs.Whole.{AreSources};
 ghost use Rattle.p8_build.specs.Sizes.{IsMeasured};
@@ -11,13 +10,14 @@ ghost use Rattle.p8_image.specs.Loading.{image_in as image_of_file};
 ghost use Rattle.p8_map.specs.Projects.{IsMapOf};
 ghost use Rattle.p8_hint.specs.Projects.{IsHintsOf};
 ghost use Rattle.p8_legend.specs.Projects.{IsLegendOf};
-ghost use Rattle.p8_inputs.specs.Asks.{StopsAtProgram, Stops, program as program_ask, listing as listing_ask, mapping as mapping_ask, hinting as hinting_ask};
+ghost use Rattle.p8_inputs.specs.Asks.{StopsAtProgram, program as program_ask, listing as listing_ask, mapping as mapping_ask, hinting as hinting_ask};
 ghost use Rattle.p8_inputs.specs.Gathered.{IsProject, IsWhole, IsImageBuiltBy, AreBuiltBy, IsListingOf, StopsAtBuilding};
-ghost use Rattle.p8_inputs.specs.Orders.{IsProjectRead, AreAllRead, AreReadSoFar};
 ghost use Rattle.p8_page.specs.Page.{Block, blocks_text, map_block};
 ghost use Rattle.p8_inputs.specs.Runs.{HasProperTrees};
 ghost use Rattle.p8_inputs.specs.Sources.{IsImageFrom, IsListingFrom, IsMapFrom, IsHintsFrom, IsProjectLegend, file_blocks, AreBlocksOf, AreProjectBlocks};
 ghost use Rattle.p8_inputs.specs.declared.program.Format.TheVariants.{Source};
+ghost use Rattle.p8_inputs.specs.Reads.{ReadsFor, ReadsForAll};
+ghost use Rattle.p8_inputs.specs.Seen.{shelf_seen};
 
 use crate::stop::Stop;
 use p8_build::{BuildFault, Built, Size, accept, build, build_parts};
@@ -56,11 +56,7 @@ pub(crate) fn project_in<S: Shelf>(
 ) -> Result<Gathered, Stop>
     ensures project { IfOk result (λ gathered. IsProject (S.files shelf.old) file.now (named_sources_of gathered.project)) }
     ensures sources { IfOk result (λ gathered. AreSources (S.files shelf.old) (named_sources_of gathered.project) gathered.sources) }
-    ensures stopped { (short : Bool) → IfErr result (StopsAtProgram (S.files shelf.old) (S.faults shelf.old) (S.faults shelf.new) (Source short) file.now) }
-    ensures all_read { IfOk result (λ gathered. FilesAreRead (named_sources_of gathered.project) (S.log shelf.old) (S.log shelf.new)) }
-    ensures in_order { ReadsInOrder (S.files shelf.old) file.now (S.log shelf.old) (S.log shelf.new) }
-    ensures later { S.faults shelf.old ≤ S.faults shelf.new }
-    ensures kept { S.files shelf.new ≡ S.files shelf.old }
+    ensures reads { (short : Bool) → ReadsFor (program_ask (Source short) file.now) (shelf_seen S.files S.log S.faults shelf.old shelf.new) result }
 {
     match gather(alloc, shelf, file) {
         Ok(gathered) => Ok(gathered),
@@ -290,11 +286,7 @@ pub(crate) fn image_in<S: Shelf>(
 ) -> Result<Image, Stop>
     ensures image { IfOk result (λ image. HasProperTrees (S.files shelf.old) (Source short) file.now image.file) }
     ensures memory { IfOk result (λ image. image ≡ image_of_file image.file) }
-    ensures stopped { IfErr result (StopsAtProgram (S.files shelf.old) (S.faults shelf.old) (S.faults shelf.new) (Source short) file.now) }
-    ensures all_read { IfOk result (λ _. IsProjectRead (S.files shelf.old) file.now (S.log shelf.old) (S.log shelf.new)) }
-    ensures in_order { ReadsInOrder (S.files shelf.old) file.now (S.log shelf.old) (S.log shelf.new) }
-    ensures later { S.faults shelf.old ≤ S.faults shelf.new }
-    ensures kept { S.files shelf.new ≡ S.files shelf.old }
+    ensures reads { ReadsFor (program_ask (Source short) file.now) (shelf_seen S.files S.log S.faults shelf.old shelf.new) result }
 {
     let gathered = project_in(alloc, file, shelf)?;
     let image = image_of_project(alloc, short, &gathered);
@@ -311,11 +303,7 @@ pub(crate) fn explained_in<S: Shelf>(
     ensures image { IfOk result (λ read. HasProperTrees (S.files shelf.old) (Source false) file.now read.image.file) }
     ensures memory { IfOk result (λ read. read.image ≡ image_of_file read.image.file) }
     ensures legend { IfOk result (λ read. IsProjectLegend (S.files shelf.old) file.now read.legend) }
-    ensures stopped { IfErr result (StopsAtProgram (S.files shelf.old) (S.faults shelf.old) (S.faults shelf.new) (Source false) file.now) }
-    ensures all_read { IfOk result (λ _. IsProjectRead (S.files shelf.old) file.now (S.log shelf.old) (S.log shelf.new)) }
-    ensures in_order { ReadsInOrder (S.files shelf.old) file.now (S.log shelf.old) (S.log shelf.new) }
-    ensures later { S.faults shelf.old ≤ S.faults shelf.new }
-    ensures kept { S.files shelf.new ≡ S.files shelf.old }
+    ensures reads { ReadsFor (program_ask (Source false) file.now) (shelf_seen S.files S.log S.faults shelf.old shelf.new) result }
 {
     let gathered = project_in(alloc, file, shelf)?;
     let read = explained_project(alloc, &gathered);
@@ -334,11 +322,7 @@ pub(crate) fn paged_in<S: Shelf>(
     ensures legend { IfOk result (λ read. IsProjectLegend (S.files shelf.old) file.now read.legend) }
     ensures blocks { IfOk result (λ read. (blocks : List Block) × AreProjectBlocks (S.files shelf.old) file.now blocks ×
         (read.project.items ≡ blocks_text blocks)) }
-    ensures stopped { IfErr result (StopsAtProgram (S.files shelf.old) (S.faults shelf.old) (S.faults shelf.new) (Source false) file.now) }
-    ensures all_read { IfOk result (λ _. IsProjectRead (S.files shelf.old) file.now (S.log shelf.old) (S.log shelf.new)) }
-    ensures in_order { ReadsInOrder (S.files shelf.old) file.now (S.log shelf.old) (S.log shelf.new) }
-    ensures later { S.faults shelf.old ≤ S.faults shelf.new }
-    ensures kept { S.files shelf.new ≡ S.files shelf.old }
+    ensures reads { ReadsFor (program_ask (Source false) file.now) (shelf_seen S.files S.log S.faults shelf.old shelf.new) result }
 {
     let gathered = project_in(alloc, file, shelf)?;
     let read = paged_project(alloc, &gathered);
@@ -354,11 +338,7 @@ fn listing_in<S: Shelf>(
     shelf: &mut S,
 ) -> Result<Vec<u8>, Stop>
     ensures text { IfOk result (λ text. IsListingFrom (S.files shelf.old) short file.now text.items) }
-    ensures stopped { IfErr result (StopsAtProgram (S.files shelf.old) (S.faults shelf.old) (S.faults shelf.new) (Source short) file.now) }
-    ensures all_read { IfOk result (λ _. IsProjectRead (S.files shelf.old) file.now (S.log shelf.old) (S.log shelf.new)) }
-    ensures in_order { ReadsInOrder (S.files shelf.old) file.now (S.log shelf.old) (S.log shelf.new) }
-    ensures later { S.faults shelf.old ≤ S.faults shelf.new }
-    ensures kept { S.files shelf.new ≡ S.files shelf.old }
+    ensures reads { ReadsFor (listing_ask short file.now) (shelf_seen S.files S.log S.faults shelf.old shelf.new) result }
 {
     let gathered = project_in(alloc, file, shelf)?;
     let text = listing_of_project(alloc, short, &gathered);
@@ -369,11 +349,7 @@ fn listing_in<S: Shelf>(
 /// The map of the project of a top file.
 fn map_in<S: Shelf>(alloc: Global, file: &str, shelf: &mut S) -> Result<Vec<u8>, Stop>
     ensures text { IfOk result (λ text. IsMapFrom (S.files shelf.old) file.now text.items) }
-    ensures stopped { IfErr result (StopsAtProgram (S.files shelf.old) (S.faults shelf.old) (S.faults shelf.new) (Source false) file.now) }
-    ensures all_read { IfOk result (λ _. IsProjectRead (S.files shelf.old) file.now (S.log shelf.old) (S.log shelf.new)) }
-    ensures in_order { ReadsInOrder (S.files shelf.old) file.now (S.log shelf.old) (S.log shelf.new) }
-    ensures later { S.faults shelf.old ≤ S.faults shelf.new }
-    ensures kept { S.files shelf.new ≡ S.files shelf.old }
+    ensures reads { ReadsFor (mapping_ask file.now) (shelf_seen S.files S.log S.faults shelf.old shelf.new) result }
 {
     let gathered = project_in(alloc, file, shelf)?;
     let text = map_of_project(alloc, &gathered);
@@ -384,11 +360,7 @@ fn map_in<S: Shelf>(alloc: Global, file: &str, shelf: &mut S) -> Result<Vec<u8>,
 /// The hints at what is most likely a slip in the project of a top file.
 fn hints_in<S: Shelf>(alloc: Global, file: &str, shelf: &mut S) -> Result<Vec<u8>, Stop>
     ensures text { IfOk result (λ text. IsHintsFrom (S.files shelf.old) file.now text.items) }
-    ensures stopped { IfErr result (StopsAtProgram (S.files shelf.old) (S.faults shelf.old) (S.faults shelf.new) (Source false) file.now) }
-    ensures all_read { IfOk result (λ _. IsProjectRead (S.files shelf.old) file.now (S.log shelf.old) (S.log shelf.new)) }
-    ensures in_order { ReadsInOrder (S.files shelf.old) file.now (S.log shelf.old) (S.log shelf.new) }
-    ensures later { S.faults shelf.old ≤ S.faults shelf.new }
-    ensures kept { S.files shelf.new ≡ S.files shelf.old }
+    ensures reads { ReadsFor (hinting_ask file.now) (shelf_seen S.files S.log S.faults shelf.old shelf.new) result }
 {
     let gathered = project_in(alloc, file, shelf)?;
     let text = hints_of_project(alloc, &gathered);
@@ -412,11 +384,7 @@ pub fn image_of_source<S: Shelf>(
 ) -> Result<Image, Stop>
     ensures image { IfOk result (λ image. IsImageFrom (S.files shelf.old) short file.now image.file) }
     ensures trees { IfOk result (λ image. HasProperTrees (S.files shelf.old) (Source short) file.now image.file) }
-    ensures stopped { IfErr result (Stops (S.files shelf.old) (S.faults shelf.old) (S.faults shelf.new) (program_ask (Source short) file.now ∷ [])) }
-    ensures all_read { IfOk result (λ _. AreAllRead (S.files shelf.old) (program_ask (Source short) file.now ∷ []) (S.log shelf.old) (S.log shelf.new)) }
-    ensures so_far { AreReadSoFar (S.files shelf.old) (program_ask (Source short) file.now ∷ []) (S.log shelf.old) (S.log shelf.new) }
-    ensures later { S.faults shelf.old ≤ S.faults shelf.new }
-    ensures kept { S.files shelf.new ≡ S.files shelf.old }
+    ensures reads { ReadsForAll (program_ask (Source short) file.now ∷ []) (shelf_seen S.files S.log S.faults shelf.old shelf.new) result }
 {
     image_in(alloc, short, file, shelf)
 }
@@ -433,11 +401,7 @@ pub fn listing_of_source<S: Shelf>(
     shelf: &mut S,
 ) -> Result<Vec<u8>, Stop>
     ensures text { IfOk result (λ text. IsListingFrom (S.files shelf.old) short file.now text.items) }
-    ensures stopped { IfErr result (Stops (S.files shelf.old) (S.faults shelf.old) (S.faults shelf.new) (listing_ask short file.now ∷ [])) }
-    ensures all_read { IfOk result (λ _. AreAllRead (S.files shelf.old) (listing_ask short file.now ∷ []) (S.log shelf.old) (S.log shelf.new)) }
-    ensures so_far { AreReadSoFar (S.files shelf.old) (listing_ask short file.now ∷ []) (S.log shelf.old) (S.log shelf.new) }
-    ensures later { S.faults shelf.old ≤ S.faults shelf.new }
-    ensures kept { S.files shelf.new ≡ S.files shelf.old }
+    ensures reads { ReadsForAll (listing_ask short file.now ∷ []) (shelf_seen S.files S.log S.faults shelf.old shelf.new) result }
 {
     listing_in(alloc, short, file, shelf)
 }
@@ -449,11 +413,7 @@ pub fn listing_of_source<S: Shelf>(
 /// Those of [`image_of_source`].
 pub fn map_of_source<S: Shelf>(alloc: Global, file: &str, shelf: &mut S) -> Result<Vec<u8>, Stop>
     ensures text { IfOk result (λ text. IsMapFrom (S.files shelf.old) file.now text.items) }
-    ensures stopped { IfErr result (Stops (S.files shelf.old) (S.faults shelf.old) (S.faults shelf.new) (mapping_ask file.now ∷ [])) }
-    ensures all_read { IfOk result (λ _. AreAllRead (S.files shelf.old) (mapping_ask file.now ∷ []) (S.log shelf.old) (S.log shelf.new)) }
-    ensures so_far { AreReadSoFar (S.files shelf.old) (mapping_ask file.now ∷ []) (S.log shelf.old) (S.log shelf.new) }
-    ensures later { S.faults shelf.old ≤ S.faults shelf.new }
-    ensures kept { S.files shelf.new ≡ S.files shelf.old }
+    ensures reads { ReadsForAll (mapping_ask file.now ∷ []) (shelf_seen S.files S.log S.faults shelf.old shelf.new) result }
 {
     map_in(alloc, file, shelf)
 }
@@ -466,11 +426,7 @@ pub fn map_of_source<S: Shelf>(alloc: Global, file: &str, shelf: &mut S) -> Resu
 /// Those of [`image_of_source`].
 pub fn hints_of_source<S: Shelf>(alloc: Global, file: &str, shelf: &mut S) -> Result<Vec<u8>, Stop>
     ensures text { IfOk result (λ text. IsHintsFrom (S.files shelf.old) file.now text.items) }
-    ensures stopped { IfErr result (Stops (S.files shelf.old) (S.faults shelf.old) (S.faults shelf.new) (hinting_ask file.now ∷ [])) }
-    ensures all_read { IfOk result (λ _. AreAllRead (S.files shelf.old) (hinting_ask file.now ∷ []) (S.log shelf.old) (S.log shelf.new)) }
-    ensures so_far { AreReadSoFar (S.files shelf.old) (hinting_ask file.now ∷ []) (S.log shelf.old) (S.log shelf.new) }
-    ensures later { S.faults shelf.old ≤ S.faults shelf.new }
-    ensures kept { S.files shelf.new ≡ S.files shelf.old }
+    ensures reads { ReadsForAll (hinting_ask file.now ∷ []) (shelf_seen S.files S.log S.faults shelf.old shelf.new) result }
 {
     hints_in(alloc, file, shelf)
 }

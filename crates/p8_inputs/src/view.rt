@@ -1,13 +1,14 @@
 // What a view begins with.
-ghost use Rattle.std.specs.Prelude.{◌≡◌, ◌≤◌, false, IfOk, OnOk, IfErr};
+ghost use Rattle.std.specs.Prelude.{false, IfOk, OnOk, IfErr};
 ghost use Rattle.p8_access.specs.Proper.{IsProperOrigin};
-ghost use Rattle.p8_inputs.specs.Asks.{StopsAt, StopsAtProgram, Stops, viewing as viewing_ask, view_asks};
+ghost use Rattle.p8_inputs.specs.Asks.{viewing as viewing_ask, view_asks, program as program_ask};
 ghost use Rattle.p8_inputs.specs.Legends.{HasName, IsLegendFrom, TellsNothing};
 ghost use Rattle.p8_commands.specs.Naming.{name_of};
-ghost use Rattle.p8_inputs.specs.Orders.{IsProgramRead, IsProgramBegun, AreAllRead, AreReadSoFar};
 ghost use Rattle.p8_inputs.specs.Runs.{Begins};
 ghost use Rattle.p8_inputs.specs.Steps.{IsBootOf, IsNameless, IsNamelessIn};
 ghost use Rattle.p8_inputs.specs.declared.program.Format.TheVariants.{Source};
+ghost use Rattle.p8_inputs.specs.Reads.{ReadsFor, ReadsForAll};
+ghost use Rattle.p8_inputs.specs.Seen.{shelf_seen};
 
 use crate::boots::binary_boot;
 use crate::inputs::{Inputs, boot_in, script_for};
@@ -52,11 +53,7 @@ fn source_told<S: Shelf>(alloc: Global, file: &str, shelf: &mut S) -> Result<Boo
     ensures boot { IfOk result (λ read. IsBootOf (S.files shelf.old) (Source false) file.now read.boot) }
     ensures proper { IfOk result (λ read. IsProperOrigin read.boot.first) }
     ensures legend { IfOk result (λ read. IsLegendFrom (S.files shelf.old) (Source false) file.now read.legend) }
-    ensures stopped { IfErr result (StopsAtProgram (S.files shelf.old) (S.faults shelf.old) (S.faults shelf.new) (Source false) file.now) }
-    ensures all_read { IfOk result (λ _. IsProgramRead (S.files shelf.old) (Source false) file.now (S.log shelf.old) (S.log shelf.new)) }
-    ensures so_far { IsProgramBegun (S.files shelf.old) (Source false) file.now (S.log shelf.old) (S.log shelf.new) }
-    ensures later { S.faults shelf.old ≤ S.faults shelf.new }
-    ensures kept { S.files shelf.new ≡ S.files shelf.old }
+    ensures reads { ReadsFor (program_ask (Source false) file.now) (shelf_seen S.files S.log S.faults shelf.old shelf.new) result }
 {
     let read = explained_in(alloc, file, shelf)?;
     let boot = binary_boot(alloc, &read.image)?;
@@ -75,11 +72,7 @@ fn other_told<S: Shelf>(
     ensures boot { IfOk result (λ read. IsBootOf (S.files shelf.old) program.entry.format program.entry.file.now read.boot) }
     ensures proper { IfOk result (λ read. IsProperOrigin read.boot.first) }
     ensures legend { IfOk result (λ read. TellsNothing read.legend) }
-    ensures stopped { IfErr result (StopsAtProgram (S.files shelf.old) (S.faults shelf.old) (S.faults shelf.new) program.entry.format program.entry.file.now) }
-    ensures all_read { IfOk result (λ _. IsProgramRead (S.files shelf.old) program.entry.format program.entry.file.now (S.log shelf.old) (S.log shelf.new)) }
-    ensures so_far { IsProgramBegun (S.files shelf.old) program.entry.format program.entry.file.now (S.log shelf.old) (S.log shelf.new) }
-    ensures later { S.faults shelf.old ≤ S.faults shelf.new }
-    ensures kept { S.files shelf.new ≡ S.files shelf.old }
+    ensures reads { ReadsFor (program_ask program.entry.format program.entry.file.now) (shelf_seen S.files S.log S.faults shelf.old shelf.new) result }
 {
     let boot = boot_in(alloc, program, shelf)?;
     Ok(BootWithLegend {
@@ -97,11 +90,7 @@ fn program_told<S: Shelf>(
     ensures boot { IfOk result (λ read. IsBootOf (S.files shelf.old) program.entry.format program.entry.file.now read.boot) }
     ensures proper { IfOk result (λ read. IsProperOrigin read.boot.first) }
     ensures legend { IfOk result (λ read. IsLegendFrom (S.files shelf.old) program.entry.format program.entry.file.now read.legend) }
-    ensures stopped { IfErr result (StopsAtProgram (S.files shelf.old) (S.faults shelf.old) (S.faults shelf.new) program.entry.format program.entry.file.now) }
-    ensures all_read { IfOk result (λ _. IsProgramRead (S.files shelf.old) program.entry.format program.entry.file.now (S.log shelf.old) (S.log shelf.new)) }
-    ensures so_far { IsProgramBegun (S.files shelf.old) program.entry.format program.entry.file.now (S.log shelf.old) (S.log shelf.new) }
-    ensures later { S.faults shelf.old ≤ S.faults shelf.new }
-    ensures kept { S.files shelf.new ≡ S.files shelf.old }
+    ensures reads { ReadsFor (program_ask program.entry.format program.entry.file.now) (shelf_seen S.files S.log S.faults shelf.old shelf.new) result }
 {
     match program.format {
         Format::Source { short } => {
@@ -153,12 +142,8 @@ fn told_with<S: Shelf>(
     ensures proper { IfOk result (λ read. IsProperOrigin read.boot.first) }
     ensures legend { IfOk result (λ read. IsLegendFrom (S.files shelf.old) program.entry.format program.entry.file.now read.legend) }
     ensures named { IfOk result (λ read. HasName read.legend (name_of name.entry)) }
-    ensures stopped { IfErr result (StopsAt (S.files shelf.old) (S.faults shelf.old) (S.faults shelf.new)
-        (viewing_ask program.entry.format program.entry.file.now (name_of name.entry))) }
-    ensures all_read { IfOk result (λ _. IsProgramRead (S.files shelf.old) program.entry.format program.entry.file.now (S.log shelf.old) (S.log shelf.new)) }
-    ensures so_far { IsProgramBegun (S.files shelf.old) program.entry.format program.entry.file.now (S.log shelf.old) (S.log shelf.new) }
-    ensures later { S.faults shelf.old ≤ S.faults shelf.new }
-    ensures kept { S.files shelf.new ≡ S.files shelf.old }
+    ensures reads { ReadsFor (viewing_ask program.entry.format program.entry.file.now (name_of name.entry))
+        (shelf_seen S.files S.log S.faults shelf.old shelf.new) result }
 {
     let told = program_told(alloc, program, shelf)?;
     seek(alloc, program.file, name, &told.legend)?;
@@ -184,15 +169,8 @@ pub fn read_viewed<S: Shelf>(
     ensures proper { IfOk result (λ read. IsProperOrigin read.inputs.boot.first) }
     ensures legend { IfOk result (λ read. IsLegendFrom (S.files shelf.old) program.entry.format program.entry.file.now read.legend) }
     ensures named { IfOk result (λ read. HasName read.legend (name_of name.entry)) }
-    ensures stopped { IfErr result
-        (Stops (S.files shelf.old) (S.faults shelf.old) (S.faults shelf.new)
-        (view_asks program.entry.format program.entry.file.now (name_of name.entry) (name_of script.entry))) }
-    ensures all_read { IfOk result (λ _. AreAllRead (S.files shelf.old)
-        (view_asks program.entry.format program.entry.file.now (name_of name.entry) (name_of script.entry)) (S.log shelf.old) (S.log shelf.new)) }
-    ensures so_far { AreReadSoFar (S.files shelf.old)
-        (view_asks program.entry.format program.entry.file.now (name_of name.entry) (name_of script.entry)) (S.log shelf.old) (S.log shelf.new) }
-    ensures later { S.faults shelf.old ≤ S.faults shelf.new }
-    ensures kept { S.files shelf.new ≡ S.files shelf.old }
+    ensures reads { ReadsForAll (view_asks program.entry.format program.entry.file.now (name_of name.entry) (name_of script.entry))
+        (shelf_seen S.files S.log S.faults shelf.old shelf.new) result }
 {
     let told = told_with(alloc, program, name, shelf)?;
     let script = script_for(alloc, script, shelf)?;

@@ -1,17 +1,5 @@
-use Rattle.std.specs.Prelude.{[]}
-use Rattle.std.proofs.lemmas.Result.{IfOk-weaker, IfErr-weaker}
-use Rattle.p8_inputs.specs.Programs.{format_of}
-use Rattle.p8_inputs.proofs.Logging.{image-all_read, image-read}
-use Rattle.p8_inputs.proofs.Stopping.{program-stops}
+use Rattle.p8_inputs.proofs.Reading.{alone}
 use Rattle.p8_inputs.proofs.convert.other_image.Goals as goal
 
-pub returns-clause-stopped : goal.returns-clause-stopped
-returns-clause-stopped g c =
-    IfErr-weaker c.other_in.result _ _ (λ stop stops. program-stops (g.S.Shelf.files c.args.shelf.now) _ _ (format_of c.args.kind) c.args.file.now [] stop stops) c.other_in.ensures.stopped
-
-pub returns-clause-all_read : goal.returns-clause-all_read
-returns-clause-all_read g c =
-    IfOk-weaker c.other_in.result _ _ (λ _ read. image-all_read (g.S.Shelf.files c.args.shelf.now) (g.S.Shelf.log c.args.shelf.now) (g.S.Shelf.log c.other_in.new.shelf) c.args.kind c.args.file.now read) c.other_in.ensures.all_read
-
-pub returns-clause-so_far : goal.returns-clause-so_far
-returns-clause-so_far g c = image-read (g.S.Shelf.files c.args.shelf.now) (g.S.Shelf.log c.args.shelf.now) (g.S.Shelf.log c.other_in.new.shelf) c.args.kind c.args.file.now c.other_in.ensures.so_far
+pub returns-clause-reads : goal.returns-clause-reads
+returns-clause-reads g c = alone c.other_in.result c.other_in.ensures.reads

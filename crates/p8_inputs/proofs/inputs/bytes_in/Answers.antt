@@ -1,5 +1,5 @@
-use Rattle.p8_inputs.proofs.Logging.{unread}
+use Rattle.p8_inputs.proofs.Reading.{unasked}
 use Rattle.p8_inputs.proofs.inputs.bytes_in.Goals as goal
 
-pub returns-in_err-name-clause-so_far : goal.returns-in_err-name-clause-so_far
-returns-in_err-name-clause-so_far g c = unread c.args.file.now (g.S.Shelf.log c.args.shelf.now)
+pub returns-in_err-name-clause-reads : goal.returns-in_err-name-clause-reads
+returns-in_err-name-clause-reads g c = unasked c.from_residual.result c.from_residual.ensures.1

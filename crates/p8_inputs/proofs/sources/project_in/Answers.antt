@@ -15,9 +15,30 @@ returns-in-Ok-clause-project g c =
       whole = record { some = some (named_sources_of c.in-Ok.gathered.project) c.args.file.now c.in-Ok.ensures.first; few = c.in-Ok.ensures.few; distinct = c.in-Ok.ensures.distinct; mentioned = c.in-Ok.ensures.mentioned; no_ring = c.in-Ok.ensures.no_ring; proper = c.in-Ok.ensures.proper };
     }
 
-pub returns-in-Err-clause-stopped : goal.returns-in-Err-clause-stopped
-returns-in-Err-clause-stopped g c short =
+pub returns-in-Ok-clause-reads : goal.returns-in-Ok-clause-reads
+returns-in-Ok-clause-reads g c short =
     let before = g.S.Shelf.faults c.args.shelf.now in
     let now = g.S.Shelf.faults c.gather.new.shelf in
     let files = g.S.Shelf.files c.args.shelf.now in
-    c.stop_of_gathering.ensures files before now short c.args.file.now (subst (λ r. Answers (shelved files before now) c.args.file.now r) c.in-Err.is c.gather.ensures.answers)
+    let answers = subst (λ r. Answers (shelved files before now) c.args.file.now r) c.in-Ok.is c.gather.ensures.answers in
+    let sources = named_sources_of c.in-Ok.gathered.project in
+    record {
+      kept = c.gather.ensures.kept;
+      later = c.gather.ensures.later;
+      stopped = tt;
+      all_read = (sources, project-gathered files before now c.args.file.now sources answers, c.in-Ok.ensures.all_read);
+      so_far = c.gather.ensures.in_order;
+    }
+
+pub returns-in-Err-clause-reads : goal.returns-in-Err-clause-reads
+returns-in-Err-clause-reads g c short =
+    let before = g.S.Shelf.faults c.args.shelf.now in
+    let now = g.S.Shelf.faults c.gather.new.shelf in
+    let files = g.S.Shelf.files c.args.shelf.now in
+    record {
+      kept = c.gather.ensures.kept;
+      later = c.gather.ensures.later;
+      stopped = c.stop_of_gathering.ensures files before now short c.args.file.now (subst (λ r. Answers (shelved files before now) c.args.file.now r) c.in-Err.is c.gather.ensures.answers);
+      all_read = tt;
+      so_far = c.gather.ensures.in_order;
+    }

@@ -1,30 +1,18 @@
-use Rattle.std.proofs.Common.{subst, inr, ◌∷◌}
-use Rattle.p8_io.specs.Shelves.{Files}
-use Rattle.p8_inputs.specs.Asks.{viewing, viewed, script_ask, Stops}
-use Rattle.p8_inputs.specs.Orders.{AreReadSoFar}
+use Rattle.p8_inputs.specs.Asks.{viewed}
 use Rattle.p8_commands.specs.Naming.{name_of}
-use Rattle.p8_inputs.proofs.Stopping.{handed-on, script-stops}
+use Rattle.p8_inputs.proofs.Reading.{stops-first, handed-all, valued-all, then-script}
 use Rattle.p8_inputs.proofs.view.read_viewed.Goals as goal
 
-pub returns-in_err-script-clause-stopped : goal.returns-in_err-script-clause-stopped
-returns-in_err-script-clause-stopped g c =
-    let files = g.S.Shelf.files c.args.shelf.now in
-    let before = g.S.Shelf.faults c.args.shelf.now in
-    let between = g.S.Shelf.faults c.told_with.new.shelf in
-    let now = g.S.Shelf.faults c.script_for.new.shelf in
-    let named = name_of c.args.script in
-    let ask = viewing c.args.program.format c.args.program.file.now (name_of c.args.name) in
-    let stops = subst (λ (f : Files). Stops f between now (script_ask named) c.in_err-script.field-0.0) c.in_ok-told.ensures.kept c.in_err-script.ensures.stopped in
-    handed-on c.from_residual-in_err-script.result _ (Stops files before now (ask ∷ script_ask named)) c.from_residual-in_err-script.ensures.1
-    (script-stops files before between now ask (viewed c.in_ok-told.ensures.boot.0 c.in_ok-told.told.legend) named c.in_err-script.field-0.0 c.in_ok-told.ensures.later
-    (c.in_ok-told.ensures.boot.1, c.in_ok-told.ensures.legend, c.in_ok-told.ensures.named) stops)
+pub returns-in_err-script-clause-reads : goal.returns-in_err-script-clause-reads
+returns-in_err-script-clause-reads g c =
+    handed-all c.from_residual-in_err-script.result c.from_residual-in_err-script.ensures.1
+    (then-script g.S.Shelf.files g.S.Shelf.log g.S.Shelf.faults c.args.shelf.now c.told_with.new.shelf c.script_for.new.shelf (viewed c.in_ok-told.ensures.boot.0 c.in_ok-told.told.legend) (name_of c.args.script) _
+    c.in_ok-told.ensures.reads (c.in_ok-told.ensures.boot.1, c.in_ok-told.ensures.legend, c.in_ok-told.ensures.named) c.in_err-script.ensures.reads)
 
-pub returns-in_err-script-clause-so_far : goal.returns-in_err-script-clause-so_far
-returns-in_err-script-clause-so_far g c =
-    let read = subst (λ (f : Files). AreReadSoFar f (script_ask (name_of c.args.script)) (g.S.Shelf.log c.told_with.new.shelf) (g.S.Shelf.log c.script_for.new.shelf)) c.in_ok-told.ensures.kept c.script_for.ensures.so_far in
-    inr (g.S.Shelf.log c.told_with.new.shelf, c.in_ok-told.ensures.all_read, (viewed c.in_ok-told.ensures.boot.0 c.in_ok-told.told.legend, (c.in_ok-told.ensures.boot.1, c.in_ok-told.ensures.legend, c.in_ok-told.ensures.named)), read)
+pub returns-clause-reads : goal.returns-clause-reads
+returns-clause-reads g c =
+    valued-all _ (then-script g.S.Shelf.files g.S.Shelf.log g.S.Shelf.faults c.args.shelf.now c.told_with.new.shelf c.script_for.new.shelf (viewed c.in_ok-told.ensures.boot.0 c.in_ok-told.told.legend) (name_of c.args.script) _
+    c.in_ok-told.ensures.reads (c.in_ok-told.ensures.boot.1, c.in_ok-told.ensures.legend, c.in_ok-told.ensures.named) c.in_ok-script.ensures.reads)
 
-pub returns-clause-so_far : goal.returns-clause-so_far
-returns-clause-so_far g c =
-    let read = subst (λ (f : Files). AreReadSoFar f (script_ask (name_of c.args.script)) (g.S.Shelf.log c.told_with.new.shelf) (g.S.Shelf.log c.script_for.new.shelf)) c.in_ok-told.ensures.kept c.script_for.ensures.so_far in
-    inr (g.S.Shelf.log c.told_with.new.shelf, c.in_ok-told.ensures.all_read, (viewed c.in_ok-told.ensures.boot.0 c.in_ok-told.told.legend, (c.in_ok-told.ensures.boot.1, c.in_ok-told.ensures.legend, c.in_ok-told.ensures.named)), read)
+pub returns-in_err-told-clause-reads : goal.returns-in_err-told-clause-reads
+returns-in_err-told-clause-reads g c = handed-all c.from_residual.result c.from_residual.ensures.1 (stops-first c.in_err-told.ensures.reads)
