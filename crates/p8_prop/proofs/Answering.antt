@@ -1,7 +1,7 @@
 -- What is answered keeps the promise of a call.
 use Rattle.std.proofs.Common.{◌≡◌, ◌≤◌, ◌∙◌, ap, sym, subst, refl, Bool, true, false, ℕ, inl, inr, List, [], ◌∷◌, ◌++◌, codes, if◌then◌else◌, Option, Some, None}
 use Rattle.std.proofs.lemmas.List.{append-nil}
-use Rattle.std.specs.Prelude.{Result, Ok, Err, IfOk, IfErr}
+use Rattle.std.specs.Prelude.{Result, Ok, Err, IfOk}
 use Rattle.p8_verify.specs.declared.verdicts.Cause.{Cause}
 use Rattle.std.specs.declared.vec.Vec.{Vec}
 use Rattle.std.specs.declared.alloc.Global.{Global}
@@ -21,7 +21,9 @@ use Rattle.p8_prop.specs.declared.work.Answer.{Answer}
 use Rattle.p8_prop.specs.declared.work.Answer.TheVariants.{Text, Bad}
 use Rattle.p8_prop.specs.Texts.{asks_of}
 use Rattle.p8_prop.specs.Works.{IsText, IsAnswerTo}
-use Rattle.p8_prop.specs.Verdicts.{Outside, SinkSeen, Verdict, unsaid, stopped, unexplained, bad, written, unwritten, StopsCommand, IsVerdict, IsOut, IsRead, IsTold, explanation, explained_by, written_of, told_of, stop_status, status_of}
+use Rattle.p8_inputs.specs.Reads.{ReadsForAll}
+use Rattle.p8_inputs.specs.Seen.{SinkSeen}
+use Rattle.p8_prop.specs.Verdicts.{Outside, Verdict, unsaid, stopped, unexplained, bad, written, unwritten, StopsCommand, IsVerdict, IsOut, IsRead, IsTold, explanation, explained_by, written_of, told_of, stop_status, status_of}
 use Rattle.p8_prop.specs.Promises.{HasHeadline, Keeps}
 use Rattle.p8_prop.specs.Answers.{IsFrom, IsGiven, IsEnding, IsEnded, IsAnswer}
 use Rattle.p8_prop.proofs.Completing.{HasOneCheck, one-verdict, complete}
@@ -140,12 +142,12 @@ module _ (one_check : HasOneCheck) (one : (files : List ℕ → Option (List ℕ
 
   -- a command, by what is answered of what came of it
   pub command-keeps : (o : Outside) (command : Command) (came : Result Answer Stop) (status : Status) → IsAnswer command came o.out o.faults status
-      → IfOk came (IsAnswerTo o.shelf.files command) → IfErr came (Stops o.shelf.files o.shelf.before o.shelf.now (asks_of command))
-      → IfOk came (λ _. AreAllRead o.shelf.files (asks_of command) o.shelf.log o.shelf.log_now) → AreReadSoFar o.shelf.files (asks_of command) o.shelf.log o.shelf.log_now → IsKept o → Keeps o (Some command) status
-  command-keeps o command (Ok came) status given is stops all some kept =
+      → IfOk came (IsAnswerTo o.shelf.files command) → ReadsForAll (asks_of command) o.shelf came → o.out.before ≤ o.out.now → o.faults.before ≤ o.faults.now → Keeps o (Some command) status
+  command-keeps o command (Ok came) status given is reads out faults =
       let from = from-verdict o command came given.verdict given.from is in
-      keeps o (Some command) status given.verdict from.0 from.1 given.answered (given.told (Some command)) (given.written_out (Some command)) (all-read o command came given.verdict given.from all) kept
-  command-keeps o command (Err reason) status ended is stops all some kept = ended-keeps o command reason status ended.verdict ended.ending ended.answered ended.told ended.written_out stops some kept
+      keeps o (Some command) status given.verdict from.0 from.1 given.answered (given.told (Some command)) (given.written_out (Some command)) (all-read o command came given.verdict given.from reads.all_read) (reads.kept, reads.later, out, faults)
+  command-keeps o command (Err reason) status ended is reads out faults =
+      ended-keeps o command reason status ended.verdict ended.ending ended.answered ended.told ended.written_out reads.stopped reads.so_far (reads.kept, reads.later, out, faults)
 
   -- words that are no command
   pub unsaid-keeps : (o : Outside) (command : Option Command) (status : Status) → command ≡ None → status ≡ status_of unsaid → IsTold o.faults command unsaid → IsOut o.out command unsaid → o.shelf.log_now ≡ o.shelf.log → IsKept o → Keeps o command status

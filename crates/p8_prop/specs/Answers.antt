@@ -15,7 +15,8 @@ use Rattle.p8_page.specs.Page.{Block, blocks_text}
 use Rattle.p8_prop.specs.Texts.{IsViewed, IsPaged}
 use Rattle.p8_prop.specs.Works.{IsRunnable, IsViewable, IsPageable, IsMadeOf, world_in}
 use Rattle.p8_prop.specs.declared.status.Status.{Status}
-use Rattle.p8_prop.specs.Verdicts.{SinkSeen, Verdict, stopped, unexplained, bad, written, unwritten, explained_by, status_of, IsOut, IsTold}
+use Rattle.p8_inputs.specs.Seen.{SinkSeen}
+use Rattle.p8_prop.specs.Verdicts.{Verdict, stopped, unexplained, bad, written, unwritten, explained_by, status_of, IsOut, IsTold}
 
 -- the work can be done
 abbrev pub CanBeDone : Work → Type 0

@@ -1,7 +1,6 @@
 -- What the program answers and writes: its verdict, and what follows from that (this project's profile).
 use Rattle.std.specs.Prelude.{ℕ, ◌≡◌, ◌⊎◌, List, [], ◌∷◌, ◌++◌, Option, Some, None, codes, if◌then◌else◌}
 use Rattle.p8_io.specs.Counts.{Rose}
-use Rattle.p8_io.specs.Shelves.{Files, Log}
 use Rattle.p8_io.specs.Sinks.{Appended, AppendedPrefix, Wrote}
 use Rattle.p8_verify.specs.declared.verdicts.Cause.{Cause}
 use Rattle.p8_explain.specs.Explaining.{absence_of, explanation_of}
@@ -10,28 +9,13 @@ use Rattle.p8_inputs.specs.declared.stop.Stop.{Stop}
 use Rattle.p8_inputs.specs.declared.stop.Stop.TheVariants as stop
 use Rattle.p8_inputs.specs.Asks.{Stops, IsOfFiles}
 use Rattle.p8_inputs.specs.Orders.{AreAllRead, AreReadSoFar}
+use Rattle.p8_inputs.specs.Seen.{ShelfSeen, SinkSeen}
 use Rattle.p8_inputs.specs.Stops as stops
 use Rattle.p8_commands.specs.Commands.{Command, explains}
 use Rattle.p8_commands.specs.Pages.{usage_line}
 use Rattle.p8_prop.specs.declared.status.Status.{Status}
 use Rattle.p8_prop.specs.declared.status.Status.TheVariants as status
 use Rattle.p8_prop.specs.Texts.{asks_of, IsAskedFor, IsBadHistory}
-
--- the shelf of a call as it is seen from outside: its files, what was read of it and its count of faults, before and now
-pub record ShelfSeen : Type 0 where
-  pub files : Files
-  pub files_now : Files
-  pub log : Log
-  pub log_now : Log
-  pub before : ℕ
-  pub now : ℕ
-
--- an output: its count of faults, and the bytes that it took, before and now
-pub record SinkSeen : Type 0 where
-  pub before : ℕ
-  pub now : ℕ
-  pub taken : Option (List ℕ)
-  pub taken_now : Option (List ℕ)
 
 -- a call: its shelf, its output, and its output for faults
 pub record Outside : Type 0 where

@@ -5,6 +5,7 @@ ghost use Rattle.p8_commands.specs.Pages.{usage_line};
 ghost use Rattle.p8_commands.specs.Seen.{command_read};
 ghost use Rattle.p8_finish.specs.Checks.{bad_line};
 ghost use Rattle.p8_inputs.specs.Stops.{line_of as stop_line};
+ghost use Rattle.p8_inputs.specs.Seen.{sink_seen};
 ghost use Rattle.p8_io.specs.Sinks.{Wrote};
 ghost use Rattle.p8_prop.specs.Verdicts.{explanation, stop_status};
 ghost use Rattle.p8_prop.specs.Answers.{text_if_any, IsAnswer, IsEnded, IsGiven};
@@ -83,18 +84,8 @@ fn bad<E: Sink>(history: &[u8], turn: u64, cause: Cause, faults: &mut E) -> Stat
 /// Writes the text that came of a command, or tells what came in its place, and how that ended.
 fn given<K: Sink, E: Sink>(answer: &Answer, out: &mut K, faults: &mut E) -> Status
     ensures answer { IsGiven answer.now
-        (record {
-          before = K.faults out.old;
-          now = K.faults out.new;
-          taken = K.taken out.old;
-          taken_now = K.taken out.new;
-        })
-        (record {
-          before = E.faults faults.old;
-          now = E.faults faults.new;
-          taken = E.taken faults.old;
-          taken_now = E.taken faults.new;
-        })
+        (sink_seen K.faults K.taken out.old out.new)
+        (sink_seen E.faults E.taken faults.old faults.new)
         result }
     ensures out_later { K.faults out.old ≤ K.faults out.new }
     ensures faults_later { E.faults faults.old ≤ E.faults faults.new }
@@ -137,18 +128,8 @@ fn explanation_of(alloc: Global, stop: &Stop) -> Result<Option<Vec<u8>>, NoMemor
 /// Writes the explanation of a reason, and how that ended.
 fn written<K: Sink, E: Sink>(stop: &Stop, text: &[u8], out: &mut K, faults: &mut E) -> Status
     ensures ended { (command : CommandSaid) → explains command ≡ true → explanation stop.now ≡ Some text.now → IsEnded command stop.now
-        (record {
-          before = K.faults out.old;
-          now = K.faults out.new;
-          taken = K.taken out.old;
-          taken_now = K.taken out.new;
-        })
-        (record {
-          before = E.faults faults.old;
-          now = E.faults faults.new;
-          taken = E.taken faults.old;
-          taken_now = E.taken faults.new;
-        })
+        (sink_seen K.faults K.taken out.old out.new)
+        (sink_seen E.faults E.taken faults.old faults.new)
         result }
     ensures out_later { K.faults out.old ≤ K.faults out.new }
     ensures faults_later { E.faults faults.old ≤ E.faults faults.new }
@@ -162,18 +143,8 @@ fn written<K: Sink, E: Sink>(stop: &Stop, text: &[u8], out: &mut K, faults: &mut
 /// Writes the explanation of a reason, or tells the reason by its line where it has none, or that there was no memory for that.
 fn explained<K: Sink, E: Sink>(alloc: Global, stop: &Stop, out: &mut K, faults: &mut E) -> Status
     ensures ended { (command : CommandSaid) → explains command ≡ true → IsEnded command stop.now
-        (record {
-          before = K.faults out.old;
-          now = K.faults out.new;
-          taken = K.taken out.old;
-          taken_now = K.taken out.new;
-        })
-        (record {
-          before = E.faults faults.old;
-          now = E.faults faults.new;
-          taken = E.taken faults.old;
-          taken_now = E.taken faults.new;
-        })
+        (sink_seen K.faults K.taken out.old out.new)
+        (sink_seen E.faults E.taken faults.old faults.new)
         result }
     ensures out_later { K.faults out.old ≤ K.faults out.new }
     ensures faults_later { E.faults faults.old ≤ E.faults faults.new }
@@ -195,18 +166,8 @@ fn ended<K: Sink, E: Sink>(
 ) -> Status
     ensures ended { IsEnded
         (command_read command.entry) stop.now
-        (record {
-          before = K.faults out.old;
-          now = K.faults out.new;
-          taken = K.taken out.old;
-          taken_now = K.taken out.new;
-        })
-        (record {
-          before = E.faults faults.old;
-          now = E.faults faults.new;
-          taken = E.taken faults.old;
-          taken_now = E.taken faults.new;
-        })
+        (sink_seen K.faults K.taken out.old out.new)
+        (sink_seen E.faults E.taken faults.old faults.new)
         result }
     ensures out_later { K.faults out.old ≤ K.faults out.new }
     ensures faults_later { E.faults faults.old ≤ E.faults faults.new }
@@ -228,18 +189,8 @@ pub fn answered<K: Sink, E: Sink>(
 ) -> Status
     ensures answer { IsAnswer
         (command_read command.entry) answer
-        (record {
-          before = K.faults out.old;
-          now = K.faults out.new;
-          taken = K.taken out.old;
-          taken_now = K.taken out.new;
-        })
-        (record {
-          before = E.faults faults.old;
-          now = E.faults faults.new;
-          taken = E.taken faults.old;
-          taken_now = E.taken faults.new;
-        })
+        (sink_seen K.faults K.taken out.old out.new)
+        (sink_seen E.faults E.taken faults.old faults.new)
         result }
     ensures out_later { K.faults out.old ≤ K.faults out.new }
     ensures faults_later { E.faults faults.old ≤ E.faults faults.new }

@@ -1,10 +1,10 @@
 // What comes of commands: what they read, a driver, and a finish.
-ghost use Rattle.std.specs.Prelude.{◌≡◌, ◌≤◌, IfOk, IfErr};
-ghost use Rattle.p8_inputs.specs.Asks.{Stops};
-ghost use Rattle.p8_inputs.specs.Orders.{AreAllRead, AreReadSoFar};
+ghost use Rattle.std.specs.Prelude.{IfOk};
 ghost use Rattle.p8_commands.specs.Seen.{command_read, HasLimits};
 ghost use Rattle.p8_prop.specs.Texts.{asks_of};
 ghost use Rattle.p8_prop.specs.Works.{IsAnswerTo};
+ghost use Rattle.p8_inputs.specs.Reads.{ReadsForAll};
+ghost use Rattle.p8_inputs.specs.Seen.{shelf_seen};
 
 use crate::driver::{done_alone, done_by_crew};
 use crate::work::{Answer, work_of};
@@ -24,11 +24,7 @@ pub fn answer_alone<S: Shelf>(
 ) -> Result<Answer, Stop>
     requires { HasLimits command }
     ensures answer { IfOk result (IsAnswerTo (S.files shelf.old) (command_read command.entry)) }
-    ensures stopped { IfErr result (Stops (S.files shelf.old) (S.faults shelf.old) (S.faults shelf.new) (asks_of (command_read command.entry))) }
-    ensures all_read { IfOk result (λ _. AreAllRead (S.files shelf.old) (asks_of (command_read command.entry)) (S.log shelf.old) (S.log shelf.new)) }
-    ensures so_far { AreReadSoFar (S.files shelf.old) (asks_of (command_read command.entry)) (S.log shelf.old) (S.log shelf.new) }
-    ensures later { S.faults shelf.old ≤ S.faults shelf.new }
-    ensures kept { S.files shelf.new ≡ S.files shelf.old }
+    ensures reads { ReadsForAll (asks_of (command_read command.entry)) (shelf_seen S.files S.log S.faults shelf.old shelf.new) result }
 {
     let work = work_of(alloc, command, shelf)?;
     let answer = done_alone(alloc, work)?;
@@ -45,11 +41,7 @@ pub fn answer_by_crew<R: Threads + Wait + Clone + Send + Drop + 'static, S: Shel
 ) -> Result<Answer, Stop>
     requires { HasLimits command }
     ensures answer { IfOk result (IsAnswerTo (S.files shelf.old) (command_read command.entry)) }
-    ensures stopped { IfErr result (Stops (S.files shelf.old) (S.faults shelf.old) (S.faults shelf.new) (asks_of (command_read command.entry))) }
-    ensures all_read { IfOk result (λ _. AreAllRead (S.files shelf.old) (asks_of (command_read command.entry)) (S.log shelf.old) (S.log shelf.new)) }
-    ensures so_far { AreReadSoFar (S.files shelf.old) (asks_of (command_read command.entry)) (S.log shelf.old) (S.log shelf.new) }
-    ensures later { S.faults shelf.old ≤ S.faults shelf.new }
-    ensures kept { S.files shelf.new ≡ S.files shelf.old }
+    ensures reads { ReadsForAll (asks_of (command_read command.entry)) (shelf_seen S.files S.log S.faults shelf.old shelf.new) result }
 {
     if command.is_alone() {
         return answer_alone(alloc, command, shelf);

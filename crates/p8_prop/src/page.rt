@@ -1,11 +1,12 @@
 // Pages of runs.
-ghost use Rattle.std.specs.Prelude.{◌≡◌, ◌≤◌, IfOk, IfErr};
-ghost use Rattle.p8_inputs.specs.Asks.{Stops, page_asks};
-ghost use Rattle.p8_inputs.specs.Orders.{AreAllRead, AreReadSoFar};
+ghost use Rattle.std.specs.Prelude.{◌≤◌, IfOk};
+ghost use Rattle.p8_inputs.specs.Asks.{page_asks};
 ghost use Rattle.p8_inputs.specs.Programs.{format_for};
 ghost use Rattle.p8_commands.specs.Naming.{name_of};
 ghost use Rattle.p8_commands.specs.Seen.{running, IsWithin};
 ghost use Rattle.p8_prop.specs.Works.{IsPageWork};
+ghost use Rattle.p8_inputs.specs.Reads.{ReadsForAll};
+ghost use Rattle.p8_inputs.specs.Seen.{shelf_seen};
 
 use crate::laws::runs_are_told;
 use crate::work::Work;
@@ -43,14 +44,8 @@ pub(crate) fn page_work<S: Shelf>(
     requires within { IsWithin run }
     requires first { from ≤ 4000000000 }
     ensures work { IfOk result (IsPageWork (S.files shelf.old) (format_for raw run.entry.file.now) (running run.entry) from to) }
-    ensures stopped { IfErr result
-        (Stops (S.files shelf.old) (S.faults shelf.old) (S.faults shelf.new) (page_asks (format_for raw run.entry.file.now) run.entry.file.now (name_of run.entry.script))) }
-    ensures all_read { IfOk result (λ _. AreAllRead (S.files shelf.old)
-        (page_asks (format_for raw run.entry.file.now) run.entry.file.now (name_of run.entry.script)) (S.log shelf.old) (S.log shelf.new)) }
-    ensures so_far { AreReadSoFar (S.files shelf.old) (page_asks (format_for raw run.entry.file.now) run.entry.file.now (name_of run.entry.script))
-        (S.log shelf.old) (S.log shelf.new) }
-    ensures later { S.faults shelf.old ≤ S.faults shelf.new }
-    ensures kept { S.files shelf.new ≡ S.files shelf.old }
+    ensures reads { ReadsForAll (page_asks (format_for raw run.entry.file.now) run.entry.file.now (name_of run.entry.script))
+        (shelf_seen S.files S.log S.faults shelf.old shelf.new) result }
 {
     runs_are_told();
     let program = Program {

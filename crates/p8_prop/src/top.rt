@@ -3,6 +3,7 @@ ghost use Rattle.std.specs.Prelude.{◌≡◌, map, string_bytes, IfOk, IfSome};
 ghost use Rattle.p8_commands.specs.Commands.{alone_of, command_of};
 ghost use Rattle.p8_commands.specs.Seen.{command_if_any, HasLimits};
 ghost use Rattle.p8_prop.specs.Promises.{Keeps};
+ghost use Rattle.p8_inputs.specs.Seen.{shelf_seen, sink_seen};
 
 use crate::answer::{answered, stopped, unsaid};
 use crate::command_answers::{answer_alone, answer_by_crew};
@@ -74,26 +75,9 @@ pub fn prop<
     starter: &mut F,
 ) -> Status
     ensures { Keeps (record {
-      shelf = record {
-        files = S.files shelf.old;
-        files_now = S.files shelf.new;
-        log = S.log shelf.old;
-        log_now = S.log shelf.new;
-        before = S.faults shelf.old;
-        now = S.faults shelf.new;
-      };
-      out = record {
-        before = K.faults out.old;
-        now = K.faults out.new;
-        taken = K.taken out.old;
-        taken_now = K.taken out.new;
-      };
-      faults = record {
-        before = E.faults faults.old;
-        now = E.faults faults.new;
-        taken = E.taken faults.old;
-        taken_now = E.taken faults.new;
-      };
+      shelf = shelf_seen S.files S.log S.faults shelf.old shelf.new;
+      out = sink_seen K.faults K.taken out.old out.new;
+      faults = sink_seen E.faults E.taken faults.old faults.new;
     }) (command_of (map string_bytes words.now)) result }
 {
     one_reading();
@@ -118,26 +102,9 @@ pub fn prop_alone<S: Shelf, K: Sink, E: Sink>(
     faults: &mut E,
 ) -> Status
     ensures { Keeps (record {
-      shelf = record {
-        files = S.files shelf.old;
-        files_now = S.files shelf.new;
-        log = S.log shelf.old;
-        log_now = S.log shelf.new;
-        before = S.faults shelf.old;
-        now = S.faults shelf.new;
-      };
-      out = record {
-        before = K.faults out.old;
-        now = K.faults out.new;
-        taken = K.taken out.old;
-        taken_now = K.taken out.new;
-      };
-      faults = record {
-        before = E.faults faults.old;
-        now = E.faults faults.new;
-        taken = E.taken faults.old;
-        taken_now = E.taken faults.new;
-      };
+      shelf = shelf_seen S.files S.log S.faults shelf.old shelf.new;
+      out = sink_seen K.faults K.taken out.old out.new;
+      faults = sink_seen E.faults E.taken faults.old faults.new;
     }) (alone_of (command_of (map string_bytes words.now))) result }
 {
     one_reading();

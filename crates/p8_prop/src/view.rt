@@ -1,13 +1,14 @@
 // Views of runs.
-ghost use Rattle.std.specs.Prelude.{◌≡◌, ◌+◌, ◌≤◌, IfOk, IfErr};
+ghost use Rattle.std.specs.Prelude.{◌≡◌, ◌+◌, ◌≤◌, IfOk};
 ghost use Rattle.std.specs.Option.{ForSome};
-ghost use Rattle.p8_inputs.specs.Asks.{Stops, view_asks};
-ghost use Rattle.p8_inputs.specs.Orders.{AreAllRead, AreReadSoFar};
+ghost use Rattle.p8_inputs.specs.Asks.{view_asks};
 ghost use Rattle.p8_inputs.specs.Programs.{format_for};
 ghost use Rattle.p8_commands.specs.Naming.{name_of};
 ghost use Rattle.p8_commands.specs.Seen.{dump_if_any, running, IsDumpInRam, IsWithin};
 ghost use Rattle.p8_prop.specs.Texts.{dumped_range as range_of_dump, in_ram as range_in_ram, name_in};
 ghost use Rattle.p8_prop.specs.Works.{IsViewWork};
+ghost use Rattle.p8_inputs.specs.Reads.{ReadsForAll};
+ghost use Rattle.p8_inputs.specs.Seen.{shelf_seen};
 
 use crate::laws::runs_are_told;
 use crate::work::Work;
@@ -77,17 +78,8 @@ pub(crate) fn view_work<S: Shelf>(
     requires within { IsWithin run }
     requires dump { IsDumpInRam dump }
     ensures work { IfOk result (IsViewWork (S.files shelf.old) (format_for raw run.entry.file.now) (running run.entry) options (dump_if_any dump.entry)) }
-    ensures stopped { IfErr result
-        (Stops (S.files shelf.old) (S.faults shelf.old) (S.faults shelf.new)
-        (view_asks (format_for raw run.entry.file.now) run.entry.file.now (name_in (dump_if_any dump.entry)) (name_of run.entry.script))) }
-    ensures all_read { IfOk result (λ _. AreAllRead (S.files shelf.old)
-        (view_asks (format_for raw run.entry.file.now) run.entry.file.now (name_in (dump_if_any dump.entry)) (name_of run.entry.script))
-        (S.log shelf.old) (S.log shelf.new)) }
-    ensures so_far { AreReadSoFar (S.files shelf.old)
-        (view_asks (format_for raw run.entry.file.now) run.entry.file.now (name_in (dump_if_any dump.entry)) (name_of run.entry.script))
-        (S.log shelf.old) (S.log shelf.new) }
-    ensures later { S.faults shelf.old ≤ S.faults shelf.new }
-    ensures kept { S.files shelf.new ≡ S.files shelf.old }
+    ensures reads { ReadsForAll (view_asks (format_for raw run.entry.file.now) run.entry.file.now (name_in (dump_if_any dump.entry)) (name_of run.entry.script))
+        (shelf_seen S.files S.log S.faults shelf.old shelf.new) result }
 {
     runs_are_told();
     let program = Program {

@@ -1,5 +1,5 @@
 // What each command reads, and what it comes to then.
-ghost use Rattle.std.specs.Prelude.{◌≡◌, ◌<◌, ◌≤◌, ◌∷◌, [], ℕ, List, Bool, Err, IfOk, IfErr};
+ghost use Rattle.std.specs.Prelude.{◌≡◌, ◌<◌, ◌≤◌, ◌∷◌, [], ℕ, List, Bool, Err, IfOk};
 ghost use Rattle.p8_access.specs.declared.memory.Boot.{Boot};
 ghost use Rattle.p8_access.specs.Worlds.{Line};
 ghost use Rattle.p8_serial.specs.Laws.{IsRate};
@@ -11,8 +11,7 @@ ghost use Rattle.p8_finish.specs.Made.{made_bytes};
 ghost use Rattle.p8_finish.specs.Summary.{made_world};
 ghost use Rattle.p8_io.specs.Shelves.{Files};
 ghost use Rattle.p8_finish.specs.Finishes.{CanBeTold};
-ghost use Rattle.p8_inputs.specs.Asks.{Stops, program as program_ask, run_asks};
-ghost use Rattle.p8_inputs.specs.Orders.{AreAllRead, AreReadSoFar};
+ghost use Rattle.p8_inputs.specs.Asks.{program as program_ask, run_asks};
 ghost use Rattle.p8_inputs.specs.Programs.{format_for};
 ghost use Rattle.p8_inputs.specs.Sources.{IsImageFrom};
 ghost use Rattle.p8_inputs.specs.declared.program.Format.TheVariants.{Source};
@@ -22,6 +21,8 @@ ghost use Rattle.p8_commands.specs.Seen.{command_read, running, HasLimits, IsWit
 ghost use Rattle.p8_prop.specs.Headline.{IsBuild};
 ghost use Rattle.p8_prop.specs.Texts.{accepted_line as accepted_line_of, asks_of};
 ghost use Rattle.p8_prop.specs.Works.{IsCheckedBy, IsRunWork, IsWork, world_in};
+ghost use Rattle.p8_inputs.specs.Reads.{ReadsForAll};
+ghost use Rattle.p8_inputs.specs.Seen.{shelf_seen};
 
 use crate::code::{image_code_work, source_code_work};
 use crate::laws::{builds_keep_meaning, runs_are_told};
@@ -88,11 +89,7 @@ fn image_bytes<S: Shelf>(
 ) -> Result<Vec<u8>, Stop>
     ensures text { IfOk result (λ text. IsImageFrom (S.files shelf.old) short file.now text.items) }
     ensures keeps { IfOk result (λ text. IsBuild (S.files shelf.old) short file.now text.items) }
-    ensures stopped { IfErr result (Stops (S.files shelf.old) (S.faults shelf.old) (S.faults shelf.new) (program_ask (Source short) file.now ∷ [])) }
-    ensures all_read { IfOk result (λ _. AreAllRead (S.files shelf.old) (program_ask (Source short) file.now ∷ []) (S.log shelf.old) (S.log shelf.new)) }
-    ensures so_far { AreReadSoFar (S.files shelf.old) (program_ask (Source short) file.now ∷ []) (S.log shelf.old) (S.log shelf.new) }
-    ensures later { S.faults shelf.old ≤ S.faults shelf.new }
-    ensures kept { S.files shelf.new ≡ S.files shelf.old }
+    ensures reads { ReadsForAll (program_ask (Source short) file.now ∷ []) (shelf_seen S.files S.log S.faults shelf.old shelf.new) result }
 {
     builds_keep_meaning();
     let image = image_of_source(alloc, short, file, shelf)?;
@@ -103,11 +100,7 @@ fn image_bytes<S: Shelf>(
 /// The image of a source.
 fn image_work<S: Shelf>(alloc: Global, short: bool, file: &str, shelf: &mut S) -> Result<Work, Stop>
     ensures work { IfOk result (IsWork (S.files shelf.old) (BuildSource short file.now)) }
-    ensures stopped { IfErr result (Stops (S.files shelf.old) (S.faults shelf.old) (S.faults shelf.new) (asks_of (BuildSource short file.now))) }
-    ensures all_read { IfOk result (λ _. AreAllRead (S.files shelf.old) (asks_of (BuildSource short file.now)) (S.log shelf.old) (S.log shelf.new)) }
-    ensures so_far { AreReadSoFar (S.files shelf.old) (asks_of (BuildSource short file.now)) (S.log shelf.old) (S.log shelf.new) }
-    ensures later { S.faults shelf.old ≤ S.faults shelf.new }
-    ensures kept { S.files shelf.new ≡ S.files shelf.old }
+    ensures reads { ReadsForAll (asks_of (BuildSource short file.now)) (shelf_seen S.files S.log S.faults shelf.old shelf.new) result }
 {
     let text = image_bytes(alloc, short, file, shelf)?;
     Ok(Work::Done(Answer::Text(text)))
@@ -121,11 +114,7 @@ fn listing_work<S: Shelf>(
     shelf: &mut S,
 ) -> Result<Work, Stop>
     ensures work { IfOk result (IsWork (S.files shelf.old) (ListSource short file.now)) }
-    ensures stopped { IfErr result (Stops (S.files shelf.old) (S.faults shelf.old) (S.faults shelf.new) (asks_of (ListSource short file.now))) }
-    ensures all_read { IfOk result (λ _. AreAllRead (S.files shelf.old) (asks_of (ListSource short file.now)) (S.log shelf.old) (S.log shelf.new)) }
-    ensures so_far { AreReadSoFar (S.files shelf.old) (asks_of (ListSource short file.now)) (S.log shelf.old) (S.log shelf.new) }
-    ensures later { S.faults shelf.old ≤ S.faults shelf.new }
-    ensures kept { S.files shelf.new ≡ S.files shelf.old }
+    ensures reads { ReadsForAll (asks_of (ListSource short file.now)) (shelf_seen S.files S.log S.faults shelf.old shelf.new) result }
 {
     let text = listing_of_source(alloc, short, file, shelf)?;
     Ok(Work::Done(Answer::Text(text)))
@@ -134,11 +123,7 @@ fn listing_work<S: Shelf>(
 /// The map of a source.
 fn map_work<S: Shelf>(alloc: Global, file: &str, shelf: &mut S) -> Result<Work, Stop>
     ensures work { IfOk result (IsWork (S.files shelf.old) (MapSource file.now)) }
-    ensures stopped { IfErr result (Stops (S.files shelf.old) (S.faults shelf.old) (S.faults shelf.new) (asks_of (MapSource file.now))) }
-    ensures all_read { IfOk result (λ _. AreAllRead (S.files shelf.old) (asks_of (MapSource file.now)) (S.log shelf.old) (S.log shelf.new)) }
-    ensures so_far { AreReadSoFar (S.files shelf.old) (asks_of (MapSource file.now)) (S.log shelf.old) (S.log shelf.new) }
-    ensures later { S.faults shelf.old ≤ S.faults shelf.new }
-    ensures kept { S.files shelf.new ≡ S.files shelf.old }
+    ensures reads { ReadsForAll (asks_of (MapSource file.now)) (shelf_seen S.files S.log S.faults shelf.old shelf.new) result }
 {
     let text = map_of_source(alloc, file, shelf)?;
     Ok(Work::Done(Answer::Text(text)))
@@ -147,11 +132,7 @@ fn map_work<S: Shelf>(alloc: Global, file: &str, shelf: &mut S) -> Result<Work, 
 /// The hints at what is most likely a slip in a source.
 fn hint_work<S: Shelf>(alloc: Global, file: &str, shelf: &mut S) -> Result<Work, Stop>
     ensures work { IfOk result (IsWork (S.files shelf.old) (HintSource file.now)) }
-    ensures stopped { IfErr result (Stops (S.files shelf.old) (S.faults shelf.old) (S.faults shelf.new) (asks_of (HintSource file.now))) }
-    ensures all_read { IfOk result (λ _. AreAllRead (S.files shelf.old) (asks_of (HintSource file.now)) (S.log shelf.old) (S.log shelf.new)) }
-    ensures so_far { AreReadSoFar (S.files shelf.old) (asks_of (HintSource file.now)) (S.log shelf.old) (S.log shelf.new) }
-    ensures later { S.faults shelf.old ≤ S.faults shelf.new }
-    ensures kept { S.files shelf.new ≡ S.files shelf.old }
+    ensures reads { ReadsForAll (asks_of (HintSource file.now)) (shelf_seen S.files S.log S.faults shelf.old shelf.new) result }
 {
     let text = hints_of_source(alloc, file, shelf)?;
     Ok(Work::Done(Answer::Text(text)))
@@ -170,11 +151,7 @@ fn accepted_line(alloc: Global, file: &str) -> Result<Vec<u8>, NoMemory>
 /// That nothing of a source is refused.
 fn accepted_work<S: Shelf>(alloc: Global, file: &str, shelf: &mut S) -> Result<Work, Stop>
     ensures work { IfOk result (IsWork (S.files shelf.old) (ExplainFile file.now)) }
-    ensures stopped { IfErr result (Stops (S.files shelf.old) (S.faults shelf.old) (S.faults shelf.new) (asks_of (ExplainFile file.now))) }
-    ensures all_read { IfOk result (λ _. AreAllRead (S.files shelf.old) (asks_of (ExplainFile file.now)) (S.log shelf.old) (S.log shelf.new)) }
-    ensures so_far { AreReadSoFar (S.files shelf.old) (asks_of (ExplainFile file.now)) (S.log shelf.old) (S.log shelf.new) }
-    ensures later { S.faults shelf.old ≤ S.faults shelf.new }
-    ensures kept { S.files shelf.new ≡ S.files shelf.old }
+    ensures reads { ReadsForAll (asks_of (ExplainFile file.now)) (shelf_seen S.files S.log S.faults shelf.old shelf.new) result }
 {
     let _image = image_of_source(alloc, false, file, shelf)?;
     let text = accepted_line(alloc, file)?;
@@ -189,11 +166,7 @@ fn other_work<S: Shelf>(
     shelf: &mut S,
 ) -> Result<Work, Stop>
     ensures work { IfOk result (IsWork (S.files shelf.old) (Convert kind file.now)) }
-    ensures stopped { IfErr result (Stops (S.files shelf.old) (S.faults shelf.old) (S.faults shelf.new) (asks_of (Convert kind file.now))) }
-    ensures all_read { IfOk result (λ _. AreAllRead (S.files shelf.old) (asks_of (Convert kind file.now)) (S.log shelf.old) (S.log shelf.new)) }
-    ensures so_far { AreReadSoFar (S.files shelf.old) (asks_of (Convert kind file.now)) (S.log shelf.old) (S.log shelf.new) }
-    ensures later { S.faults shelf.old ≤ S.faults shelf.new }
-    ensures kept { S.files shelf.new ≡ S.files shelf.old }
+    ensures reads { ReadsForAll (asks_of (Convert kind file.now)) (shelf_seen S.files S.log S.faults shelf.old shelf.new) result }
 {
     let text = other_image(alloc, kind, file, shelf)?;
     Ok(Work::Done(Answer::Text(text)))
@@ -210,13 +183,8 @@ fn run_work<S: Shelf>(
     requires within { IsWithin run }
     requires can { CanBeTold finish run.clocks run.turns }
     ensures work { IfOk result (IsRunWork (S.files shelf.old) format (running run.entry) finish) }
-    ensures stopped { IfErr result
-        (Stops (S.files shelf.old) (S.faults shelf.old) (S.faults shelf.new) (run_asks format run.entry.file.now (name_of run.entry.script))) }
-    ensures all_read { IfOk result (λ _. AreAllRead (S.files shelf.old) (run_asks format run.entry.file.now (name_of run.entry.script))
-        (S.log shelf.old) (S.log shelf.new)) }
-    ensures so_far { AreReadSoFar (S.files shelf.old) (run_asks format run.entry.file.now (name_of run.entry.script)) (S.log shelf.old) (S.log shelf.new) }
-    ensures later { S.faults shelf.old ≤ S.faults shelf.new }
-    ensures kept { S.files shelf.new ≡ S.files shelf.old }
+    ensures reads { ReadsForAll (run_asks format run.entry.file.now (name_of run.entry.script))
+        (shelf_seen S.files S.log S.faults shelf.old shelf.new) result }
 {
     runs_are_told();
     let file = Program {
@@ -249,14 +217,8 @@ fn chosen_work<S: Shelf>(
     requires within { IsWithin run }
     requires can { CanBeTold finish run.clocks run.turns }
     ensures work { IfOk result (IsRunWork (S.files shelf.old) (format_for raw run.entry.file.now) (running run.entry) finish) }
-    ensures stopped { IfErr result
-        (Stops (S.files shelf.old) (S.faults shelf.old) (S.faults shelf.new) (run_asks (format_for raw run.entry.file.now) run.entry.file.now (name_of run.entry.script))) }
-    ensures all_read { IfOk result (λ _. AreAllRead (S.files shelf.old)
-        (run_asks (format_for raw run.entry.file.now) run.entry.file.now (name_of run.entry.script)) (S.log shelf.old) (S.log shelf.new)) }
-    ensures so_far { AreReadSoFar (S.files shelf.old) (run_asks (format_for raw run.entry.file.now) run.entry.file.now (name_of run.entry.script))
-        (S.log shelf.old) (S.log shelf.new) }
-    ensures later { S.faults shelf.old ≤ S.faults shelf.new }
-    ensures kept { S.files shelf.new ≡ S.files shelf.old }
+    ensures reads { ReadsForAll (run_asks (format_for raw run.entry.file.now) run.entry.file.now (name_of run.entry.script))
+        (shelf_seen S.files S.log S.faults shelf.old shelf.new) result }
 {
     run_work(alloc, Format::chosen(raw, run.file), run, finish, shelf)
 }
@@ -300,13 +262,8 @@ fn check_work<S: Shelf>(
     shelf: &mut S,
 ) -> Result<Work, Stop>
     ensures work { IfOk result (IsWork (S.files shelf.old) (Check raw file.now history.now (name_of script.entry))) }
-    ensures stopped { IfErr result
-        (Stops (S.files shelf.old) (S.faults shelf.old) (S.faults shelf.new) (asks_of (Check raw file.now history.now (name_of script.entry)))) }
-    ensures all_read { IfOk result (λ _. AreAllRead (S.files shelf.old) (asks_of (Check raw file.now history.now (name_of script.entry)))
-        (S.log shelf.old) (S.log shelf.new)) }
-    ensures so_far { AreReadSoFar (S.files shelf.old) (asks_of (Check raw file.now history.now (name_of script.entry))) (S.log shelf.old) (S.log shelf.new) }
-    ensures later { S.faults shelf.old ≤ S.faults shelf.new }
-    ensures kept { S.files shelf.new ≡ S.files shelf.old }
+    ensures reads { ReadsForAll (asks_of (Check raw file.now history.now (name_of script.entry)))
+        (shelf_seen S.files S.log S.faults shelf.old shelf.new) result }
 {
     let program = Program {
         file,
@@ -330,12 +287,7 @@ fn typed_work<S: Shelf>(
     requires rate { IsRate bits }
     requires begins { (1 ≤ start) × (start ≤ 100000000) }
     ensures work { IfOk result (IsWork (S.files shelf.old) (TypeFile file.now pin bits start)) }
-    ensures stopped { IfErr result
-        (Stops (S.files shelf.old) (S.faults shelf.old) (S.faults shelf.new) (asks_of (TypeFile file.now pin bits start))) }
-    ensures all_read { IfOk result (λ _. AreAllRead (S.files shelf.old) (asks_of (TypeFile file.now pin bits start)) (S.log shelf.old) (S.log shelf.new)) }
-    ensures so_far { AreReadSoFar (S.files shelf.old) (asks_of (TypeFile file.now pin bits start)) (S.log shelf.old) (S.log shelf.new) }
-    ensures later { S.faults shelf.old ≤ S.faults shelf.new }
-    ensures kept { S.files shelf.new ≡ S.files shelf.old }
+    ensures reads { ReadsForAll (asks_of (TypeFile file.now pin bits start)) (shelf_seen S.files S.log S.faults shelf.old shelf.new) result }
 {
     let bytes = read_message(alloc, file, shelf)?;
     let text = typed(alloc, &bytes, pin, bits, start)?;
@@ -398,11 +350,7 @@ fn help_work(alloc: Global, topic: Option<Subcommand>) -> Result<Work, NoMemory>
 pub fn work_of<S: Shelf>(alloc: Global, command: Command<'_>, shelf: &mut S) -> Result<Work, Stop>
     requires { HasLimits command }
     ensures work { IfOk result (IsWork (S.files shelf.old) (command_read command.entry)) }
-    ensures stopped { IfErr result (Stops (S.files shelf.old) (S.faults shelf.old) (S.faults shelf.new) (asks_of (command_read command.entry))) }
-    ensures all_read { IfOk result (λ _. AreAllRead (S.files shelf.old) (asks_of (command_read command.entry)) (S.log shelf.old) (S.log shelf.new)) }
-    ensures so_far { AreReadSoFar (S.files shelf.old) (asks_of (command_read command.entry)) (S.log shelf.old) (S.log shelf.new) }
-    ensures later { S.faults shelf.old ≤ S.faults shelf.new }
-    ensures kept { S.files shelf.new ≡ S.files shelf.old }
+    ensures reads { ReadsForAll (asks_of (command_read command.entry)) (shelf_seen S.files S.log S.faults shelf.old shelf.new) result }
 {
     match command {
         Command::Build { short, file } => image_work(alloc, short, file, shelf),

@@ -1,15 +1,15 @@
-use Rattle.std.proofs.Common.{◌≡◌, rules, subst, List, ℕ}
+use Rattle.std.proofs.Common.{◌≡◌, rules, subst, List, ℕ, ap}
 use Rattle.p8_commands.specs.Naming.{name_of}
 use Rattle.p8_commands.specs.Seen.{running}
 use Rattle.p8_inputs.specs.Asks.{page_asks}
 use Rattle.p8_inputs.specs.Legends.{IsLegendFrom}
-use Rattle.p8_inputs.specs.Orders.{AreReadSoFar}
 use Rattle.p8_inputs.specs.Pages.{AreBlocksFrom}
 use Rattle.p8_inputs.specs.Programs.{format_for}
 use Rattle.p8_inputs.specs.Runs.{Begins}
 use Rattle.p8_inputs.specs.declared.program.Format.{Format}
 use Rattle.p8_prop.specs.Texts.{IsPaged}
 use Rattle.p8_prop.proofs.Coming.{begun, page-told}
+use Rattle.p8_inputs.proofs.Reading.{handed-all, wanting-all, valued-all, for-asks}
 use Rattle.p8_prop.proofs.page.page_work.Goals as goal
 
 pub returns-clause-work : goal.returns-clause-work
@@ -28,14 +28,17 @@ returns-clause-work g c =
       (e.blocks.0, e.blocks.2, λ text is. told text (subst (λ (name : List ℕ). IsPaged (begun c.runs_are_told.ensures files format (running c.args.run) read.inputs begins) name c.args.from c.args.to read.legend e.blocks.0 text) named is)),
     )
 
-pub returns-clause-so_far : goal.returns-clause-so_far
-returns-clause-so_far g c =
-    let files = g.S.Shelf.files c.args.shelf.now in
-    let file = c.args.run.file.now in
-    subst (λ (f : Format). AreReadSoFar files (page_asks f file (name_of c.args.run.script)) (g.S.Shelf.log c.args.shelf.now) (g.S.Shelf.log c.read_paged.new.shelf)) c.chosen.ensures c.read_paged.ensures.so_far
+pub returns-clause-reads : goal.returns-clause-reads
+returns-clause-reads g c =
+    for-asks (ap (λ (f : Format). page_asks f c.args.run.file.now (name_of c.args.run.script)) c.chosen.ensures)
+    (valued-all _ c.in_ok-read.ensures.reads)
 
-pub returns-in_err-extend_from_slice-clause-so_far : goal.returns-in_err-extend_from_slice-clause-so_far
-returns-in_err-extend_from_slice-clause-so_far g c =
-    let files = g.S.Shelf.files c.args.shelf.now in
-    let file = c.args.run.file.now in
-    subst (λ (f : Format). AreReadSoFar files (page_asks f file (name_of c.args.run.script)) (g.S.Shelf.log c.args.shelf.now) (g.S.Shelf.log c.read_paged.new.shelf)) c.chosen.ensures c.read_paged.ensures.so_far
+pub returns-in_err-extend_from_slice-clause-reads : goal.returns-in_err-extend_from_slice-clause-reads
+returns-in_err-extend_from_slice-clause-reads g c =
+    for-asks (ap (λ (f : Format). page_asks f c.args.run.file.now (name_of c.args.run.script)) c.chosen.ensures)
+    (wanting-all c.from_residual-in_err-extend_from_slice.result c.from_residual-in_err-extend_from_slice.ensures.1 c.in_ok-read.ensures.reads)
+
+pub returns-in_err-read-clause-reads : goal.returns-in_err-read-clause-reads
+returns-in_err-read-clause-reads g c =
+    for-asks (ap (λ (f : Format). page_asks f c.args.run.file.now (name_of c.args.run.script)) c.chosen.ensures)
+    (handed-all c.from_residual.result c.from_residual.ensures.1 c.in_err-read.ensures.reads)
