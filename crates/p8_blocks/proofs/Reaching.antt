@@ -1,25 +1,21 @@
 -- The tokens of a text from one on, and what lines lead to.
-use Rattle.std.proofs.Common.{◌≡◌, ◌∙◌, ℕ, zero, suc, ◌+◌, ◌<◌, ◌≤◌, ◌⊎◌, inl, inr, List, [], ◌∷◌, ◌++◌, Option, Some, None, refl, sym, ap, subst, length, map, drop, add-one, arith}
-use Rattle.std.specs.Prelude.{slice_get, unwrap_or}
+use Rattle.std.proofs.Common.{◌≡◌, ◌∙◌, ℕ, suc, ◌+◌, ◌<◌, ◌≤◌, ◌⊎◌, inl, inr, List, [], ◌∷◌, ◌++◌, Option, None, refl, sym, ap, subst, length, map, drop, arith}
+use Rattle.std.specs.Prelude.{unwrap_or}
 use Rattle.std.proofs.lemmas.Bool.{cases_lt}
 use Rattle.std.proofs.lemmas.List.{length-map}
 use Rattle.p8_tree.specs.declared.places.Place.{Place}
 use Rattle.p8_tree.specs.Sources.{Source}
 use Rattle.p8_lexer.specs.declared.word.Word.TheVariants as word_case
 use Rattle.p8_lexer.specs.declared.token.Token as lexer_token
-use Rattle.p8_lines.specs.Tokens.{LineToken, word, line_token, text_end, all_tokens, tokens_from}
+use Rattle.p8_expr.specs.Cursors.{Spot, word_there, place_there}
+use Rattle.p8_lines.specs.Tokens.{LineToken, word, line_token, text_end, all_tokens, tokens_from, left, left_behind}
+use Rattle.p8_lines.specs.Stopping.{next}
+use Rattle.p8_lines.proofs.Texts.{first_at}
+use Rattle.p8_lines.proofs.Targets.{word_here, place_here}
 use Rattle.p8_blocks.specs.Reading.{Position, at, start, blank, Goes, stay, go_on, Fails, AreBlocks, Parses, whole, fails, source, fault, is_begun}
 use Rattle.p8_blocks.specs.Standing.{StandsFor, Starts, Continues, Reached}
 use Rattle.p8_blocks.specs.declared.first.First.{First}
 use Rattle.p8_blocks.specs.declared.growing.Growing.{Growing}
-
-some_same : {A : Type 0} {x y : A} → Some x ≡ Some y → x ≡ y
-some_same h = cc
-
-drop_mapped : {A B : Type 0} (f : A → B) (xs : List A) (i : ℕ) (x : A) (e : B) → slice_get xs i ≡ Some x → drop i (map f xs ++ e ∷ []) ≡ f x ∷ drop (suc i) (map f xs ++ e ∷ [])
-drop_mapped f [] i x e h = absurd cc
-drop_mapped f (y ∷ ys) zero x e h = ap (λ y. f y ∷ (map f ys ++ e ∷ [])) (some_same h)
-drop_mapped f (y ∷ ys) (suc i) x e h = drop_mapped f ys i x e h
 
 drop_all : {A : Type 0} (xs : List A) (e : A) → drop (length xs) (xs ++ e ∷ []) ≡ e ∷ []
 drop_all [] e = refl
@@ -29,20 +25,18 @@ drop_more : {A : Type 0} (xs : List A) (e : A) → drop (suc (length xs)) (xs ++
 drop_more [] e = refl
 drop_more (x ∷ xs) e = drop_more xs e
 
-pub one_token : (bytes : List ℕ) (tokens : List lexer_token.Token) (at : ℕ) (t : lexer_token.Token) → slice_get tokens at ≡ Some t → tokens_from bytes tokens at ≡ line_token bytes t ∷ tokens_from bytes tokens (at + 1)
-one_token bytes tokens at t h =
-    let f : lexer_token.Token → LineToken = line_token bytes in
-    drop_mapped f tokens at t (text_end (map f tokens)) h ∙ ap (λ n. f t ∷ tokens_from bytes tokens n) (sym (add-one at))
+pub starts : (s : Spot) (b : Option Place) (first : First) → s.at < length s.tokens → first.word ≡ word_there s → first.place ≡ place_there s → first.begin ≡ unwrap_or b first.place → first.begun ≡ is_begun b → Starts (left s) (left_behind s) b first
+starts s b first lt w p e g =
+    let same_word = w ∙ word_here s in
+    let same_place = p ∙ place_here s in
+    record {
+      token = next s;
+      tokens = first_at s.bytes s.tokens s.at (omega (arith, lt));
+      is = record { same_begun = sym g; same_word = sym same_word; same_place = sym same_place; same_begin = ap (unwrap_or b) (sym same_place) ∙ sym e };
+    }
 
-pub starts : (bytes : List ℕ) (tokens : List lexer_token.Token) (at : ℕ) (b : Option Place) (t : lexer_token.Token) (first : First) → slice_get tokens at ≡ Some t → first.word ≡ word (line_token bytes t) → first.place ≡ (line_token bytes t).place → first.begin ≡ unwrap_or b first.place → first.begun ≡ is_begun b → Starts (tokens_from bytes tokens at) (tokens_from bytes tokens (at + 1)) b first
-starts bytes tokens at b t first h w p e g = record {
-  token = line_token bytes t;
-  tokens = one_token bytes tokens at t h;
-  is = record { same_begun = sym g; same_word = sym w; same_place = sym p; same_begin = ap (unwrap_or b) (sym p) ∙ sym e };
-}
-
-pub begun_reached : (bytes : List ℕ) (tokens : List lexer_token.Token) (file : Growing) → StandsFor start file → Reached (all_tokens bytes tokens) (tokens_from bytes tokens 0) file
-begun_reached bytes tokens file s = record { position = start; goes = stay; stands = s }
+pub begun_reached : {ts : List LineToken} (file : Growing) → StandsFor start file → Reached ts ts file
+begun_reached file s = record { position = start; goes = stay; stands = s }
 
 pub more_reached : {ts us vs : List LineToken} {old new : Growing} (r : Reached ts us old) → Continues r.position us new vs → Reached ts vs new
 more_reached {ts} {us} {vs} {old} {new} r c = record { position = c.next; goes = go_on r.goes c.step; stands = c.stands }

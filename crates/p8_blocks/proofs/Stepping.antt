@@ -1,5 +1,5 @@
 -- What one line does to the blocks so far.
-use Rattle.std.proofs.Common.{◌≡◌, ◌∙◌, ℕ, List, [], ◌∷◌, ◌++◌, Option, Some, None, true, refl, sym, ap, subst, map}
+use Rattle.std.proofs.Common.{◌≡◌, ◌∙◌, ℕ, ◌+◌, ◌<◌, length, List, [], ◌∷◌, ◌++◌, Option, Some, None, true, refl, sym, ap, subst, map, arith}
 use Rattle.std.specs.Prelude.{◌≢◌, if◌then◌else◌, Result, IfOk, IfErr}
 use Rattle.std.proofs.lemmas.Result.{IfOk-weaker, IfErr-weaker}
 use Rattle.p8_words.specs.declared.failure.Fail.{Fail}
@@ -16,6 +16,7 @@ use Rattle.p8_columns.specs.Lines.{Kind}
 use Rattle.p8_columns.specs.Taken.{HasTaken}
 use Rattle.p8_columns.specs.declared.blocks.Blocks.{Blocks}
 use Rattle.p8_lines.specs.declared.state.LineState.{LineState}
+use Rattle.p8_expr.specs.Cursors.{Spot, moved, IsLater}
 use Rattle.p8_lines.specs.Tokens.{LineToken, word}
 use Rattle.p8_lines.specs.Lines.{refused, Reads}
 use Rattle.p8_statements.specs.Statements.{kind_of_row}
@@ -108,10 +109,10 @@ inner {ts} {us} {b} {first} s e h = record {
 }
 
 -- what a reader of one line gives
-pub added : {ts : List LineToken} {end : ℕ} {o : opened.Open} (qs ps : List Part) (p : Part) (line : Extended) (rest : ℕ → List LineToken) → line.block ≡ o → line.begun ≡ None → line.end ≡ end → IsOpen p o → Extends ts qs (p ∷ ps) (rest end) → Added qs ps ts line (rest line.end)
-added {ts} {end} {o} qs ps p line rest b n e i x = record {
+pub added : {ts rest : List LineToken} {o : opened.Open} (qs ps : List Part) (p : Part) (line : Extended) → line.block ≡ o → line.begun ≡ None → IsOpen p o → Extends ts qs (p ∷ ps) rest → Added qs ps ts line rest
+added {o = o} qs ps p line b n i x = record {
   part = p;
-  extends = subst (λ n. Extends ts qs (p ∷ ps) (rest n)) (sym e) x;
+  extends = x;
   stands = subst (λ o. IsOpen p o) (sym b) i;
   begun = n;
 }
@@ -123,15 +124,15 @@ appended_view f xs ys all e = sym (ap (map f) e ∙ go xs)
     go [] = refl
     go (x ∷ xs) = ap (λ zs. f x ∷ zs) (go xs)
 
-pub method_grown : {ts us rest : List LineToken} {b : Option Place} {first : First} {q : LineState} {k : Kind} {end : ℕ} (s : Inner ts us b first) (m : Method) (ls : List lines.Line) (ps : List Part) → MayRead ls (is_begun b) s.token q → ReadsAs kind_of_row q ts k rest → (blocks : Blocks) (begun : Option Place) → begun ≡ (if is_item k then Some first.begin else None) → HasTaken (ls ++ lines.line first.place k ∷ []) blocks → Grown (method (method_of m) ls ∷ ps) ps b ts (record { block = open_case.Method m blocks; begun = begun; end = end }) rest
-method_grown {ts} {us} {rest} {b} {first} {q} {k} {end} s m ls ps r h blocks begun e t = record {
+pub method_grown : {ts us rest : List LineToken} {b : Option Place} {first : First} {q : LineState} {k : Kind} (s : Inner ts us b first) (m : Method) (ls : List lines.Line) (ps : List Part) → MayRead ls (is_begun b) s.token q → ReadsAs kind_of_row q ts k rest → (blocks : Blocks) (begun : Option Place) → begun ≡ (if is_item k then Some first.begin else None) → HasTaken (ls ++ lines.line first.place k ∷ []) blocks → Grown (method (method_of m) ls ∷ ps) ps b ts (record { block = open_case.Method m blocks; begun = begun }) rest
+method_grown {ts} {us} {rest} {b} {first} {q} {k} s m ls ps r h blocks begun e t = record {
   part = method (method_of m) (ls ++ lines.line first.place k ∷ []);
   step = subst (λ x. Step (at (method (method_of m) ls ∷ ps) b) ts (at (method (method_of m) (ls ++ lines.line first.place k ∷ []) ∷ ps) x) rest) (sym e) (method_steps s (method_of m) ls ps r h);
   stands = (ls ++ lines.line first.place k ∷ [], t, refl);
 }
 
-pub grown_all : {ts us : List LineToken} {b : Option Place} {first : First} {E : Type 0} (p q : Part) (ps : List Part) (rest : ℕ → List LineToken) → Inner ts us b first → p ≡ q → (r : Result Extended E) → IfOk r (λ x. Added (q ∷ ps) ps ts x (rest x.end)) → IfOk r (λ x. Grown (p ∷ ps) ps b ts x (rest x.end))
-grown_all {ts} {us} {b} {first} p q ps rest s e r h = IfOk-weaker r (λ x. Added (q ∷ ps) ps ts x (rest x.end)) (λ x. Grown (p ∷ ps) ps b ts x (rest x.end)) (λ x. grown p q ps s e) h
+pub grown_all : {ts us : List LineToken} {b : Option Place} {first : First} {E : Type 0} (p q : Part) (ps : List Part) (rest : List LineToken) → Inner ts us b first → p ≡ q → (r : Result Extended E) → IfOk r (λ x. Added (q ∷ ps) ps ts x rest) → IfOk r (λ x. Grown (p ∷ ps) ps b ts x rest)
+grown_all {ts} {us} {b} {first} p q ps rest s e r h = IfOk-weaker r (λ x. Added (q ∷ ps) ps ts x rest) (λ x. Grown (p ∷ ps) ps b ts x rest) (λ x. grown p q ps s e) h
 
 pub refused_all : {ts us : List LineToken} {b : Option Place} {first : First} {T : Type 0} (p q : Part) (ps : List Part) → Inner ts us b first → p ≡ q → declares (q ∷ ps) ≡ true → (r : Result T (Fail Fault)) → IfErr r (IfRefused (λ f. Reads (line_state (q ∷ ps)) ts (refused f.number f.place))) → IfErr r (IfRefused (λ f. Fails (at (p ∷ ps) b) ts f.number f.place))
 refused_all {ts} {us} {b} {first} p q ps s e d r h =
@@ -161,3 +162,13 @@ blank_continues {ts} {us} {b} {first} {old} {new} x s w h c d e = record {
 
 pub head_continues : {ts us rest : List LineToken} {b : Option Place} {first : First} {file : Growing} {o : opened.Open} (x : Position) (h : head_type.BlockWord) (s : Starts ts us b first) → first.word ≡ word_of_head h → first.place.column ≡ 1 → (y : Begins s.token us o rest) → StandsFor (at (y.part ∷ x.parts) None) file → Continues x ts file rest
 head_continues x h s w c y f = record { next = at (y.part ∷ x.parts) None; step = head_steps x h s y.part w c y.opens; stands = f }
+
+-- a later spot than the one behind a token
+pub later_still : {s t u : Spot} → t ≡ moved s (s.at + 1) → IsLater t u → IsLater s u
+later_still {s} {t} {u} e h =
+    let x : IsLater (moved s (s.at + 1)) u = subst (λ t. IsLater t u) e h in
+    let lt = x.1 in
+    (x.0, omega (arith, lt), x.2)
+
+pub later_by_one : {s t : Spot} → s.at < length s.tokens → t ≡ moved s (s.at + 1) → IsLater s t
+later_by_one {s} lt e = subst (λ t. IsLater s t) (sym e) (refl, omega arith, omega (arith, lt))

@@ -5,7 +5,7 @@ ghost use Rattle.p8_tree.specs.Sources.{MethodTree};
 ghost use Rattle.p8_grammar.specs.Lexemes.{in_method};
 ghost use Rattle.p8_columns.specs.Lines as lines;
 ghost use Rattle.p8_columns.specs.Taken.{HasTaken};
-ghost use Rattle.p8_lines.specs.Tokens.{LineToken, tokens_from, word};
+ghost use Rattle.p8_lines.specs.Tokens.{LineToken, left, left_behind, word};
 ghost use Rattle.p8_tree.specs.declared.refusal.Refusal.TheVariants.{TooNested};
 ghost use Rattle.p8_tree.specs.Refusals.{refusal_number};
 ghost use Rattle.p8_tree.specs.Faults.{IfRefused};
@@ -19,9 +19,9 @@ use crate::first::First;
 use crate::statements::read_statement;
 use crate::words::{ends_loop, goes_on_chain, leaves_loop, opens};
 use p8_columns::{Blocks, Chain, Room};
-use p8_expr::refusal_of;
+use p8_expr::{TokenCursor, refusal_of};
 use p8_grammar::Setting;
-use p8_lexer::{Tokens, Word};
+use p8_lexer::Word;
 use p8_lines::LineState;
 use p8_tree::{Fault, Place, Refusal};
 use p8_words::Fail;
@@ -152,19 +152,13 @@ fn first_refusal(fail: Fail<Fault>, first: First) -> Fail<Fault>
 }
 
 // The refusal of a line that is too deep.
-fn too_deep(
-    alloc: Global,
-    bytes: &[u8],
-    tokens: &Tokens,
-    at: usize,
-    first: First,
-    state: LineState,
-) -> Fail<Fault>
-    requires within { at < length tokens.now }
+fn too_deep(alloc: Global, here: &TokenCursor, first: First, state: LineState) -> Fail<Fault>
+    requires within { here.now.at < length here.now.tokens }
     requires begins { IsTrue (begins_line state) }
-    ensures { IfRefused (λ f. TellsTooDeep state (tokens_from bytes.now tokens.now at) first.place first.begin f.number f.place) result }
+    ensures { IfRefused (λ f. TellsTooDeep state (left here.now) first.place first.begin f.number f.place) result }
 {
-    match read_statement(alloc, bytes, tokens, at, state) {
+    let mut again = here.copied();
+    match read_statement(alloc, &mut again, state) {
         Ok(read) => {
             drop(read);
             too_nested(first.begin)
@@ -176,27 +170,25 @@ fn too_deep(
 // The state, unless the line is refused for the blocks that are open there.
 fn within_depth(
     alloc: Global,
-    bytes: &[u8],
-    tokens: &Tokens,
-    at: usize,
+    here: &TokenCursor,
     first: First,
     blocks: &Blocks,
     state: LineState,
 ) -> Result<LineState, Fail<Fault>>
-    requires within { at < length tokens.now }
+    requires within { here.now.at < length here.now.tokens }
     requires begins { IsTrue (begins_line state) }
     ensures same { IfOk result (λ q. q ≡ state) }
     ensures read { (ls : List lines.Line) (t : LineToken) → HasTaken ls blocks.now → word t ≡ first.word → t.place ≡ first.place →
         Enters ls first.begun t (from state) → IfOk result (λ q. MayRead ls first.begun t q) }
     ensures refused { (b : Option tree_place.Place) (m : MethodTree) (ls : List lines.Line) (ps : List Part) →
-        Inner (tokens_from bytes.now tokens.now at) (tokens_from bytes.now tokens.now (at + 1)) b first → HasTaken ls blocks.now →
+        Inner (left here.now) (left_behind here.now) b first → HasTaken ls blocks.now →
         ((t : LineToken) → word t ≡ first.word → t.place ≡ first.place → Enters ls first.begun t (from state)) →
-        IfErr result (IfRefused (λ f. Fails (position (method m ls ∷ ps) b) (tokens_from bytes.now tokens.now at) f.number f.place)) }
+        IfErr result (IfRefused (λ f. Fails (position (method m ls ∷ ps) b) (left here.now) f.number f.place)) }
 {
     if has_no_loop(blocks, first, state) {
         Err(Fail::Refused(Refusal::LoopWord.at(first.place)))
     } else if is_too_deep(blocks, first, state) {
-        Err(too_deep(alloc, bytes, tokens, at, first, state))
+        Err(too_deep(alloc, here, first, state))
     } else {
         Ok(state)
     }
@@ -206,22 +198,20 @@ fn within_depth(
 /// open there.
 pub fn state_of_line(
     alloc: Global,
-    bytes: &[u8],
-    tokens: &Tokens,
-    at: usize,
+    here: &TokenCursor,
     first: First,
     blocks: &Blocks,
 ) -> Result<LineState, Fail<Fault>>
-    requires { at < length tokens.now }
+    requires { here.now.at < length here.now.tokens }
     ensures begins { IfOk result (λ q. IsTrue (begins_line q)) }
     ensures read { (ls : List lines.Line) (t : LineToken) → HasTaken ls blocks.now → word t ≡ first.word → t.place ≡ first.place →
         IfOk result (λ q. MayRead ls first.begun t q) }
     ensures refused { (b : Option tree_place.Place) (m : MethodTree) (ls : List lines.Line) (ps : List Part) →
-        Inner (tokens_from bytes.now tokens.now at) (tokens_from bytes.now tokens.now (at + 1)) b first → HasTaken ls blocks.now →
-        IfErr result (IfRefused (λ f. Fails (position (method m ls ∷ ps) b) (tokens_from bytes.now tokens.now at) f.number f.place)) }
+        Inner (left here.now) (left_behind here.now) b first → HasTaken ls blocks.now →
+        IfErr result (IfRefused (λ f. Fails (position (method m ls ∷ ps) b) (left here.now) f.number f.place)) }
 {
     match entry_at(blocks, first) {
-        Entry::From(state) => within_depth(alloc, bytes, tokens, at, first, blocks, state),
+        Entry::From(state) => within_depth(alloc, here, first, blocks, state),
         Entry::Barred(refusal) => Err(Fail::Refused(refusal.at(first.place))),
     }
 }

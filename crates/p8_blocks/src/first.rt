@@ -1,12 +1,13 @@
 // The first token of a line.
-ghost use Rattle.std.specs.Prelude.{◌≡◌, ◌<◌, ◌+◌, ◌↔◌, IsTrue, MatchOption, Some, length, slice_get};
+ghost use Rattle.std.specs.Prelude.{◌≡◌, ◌<◌, ◌↔◌, IsTrue, MatchOption, length};
 ghost use Rattle.p8_lexer.specs.declared.word.Word.TheVariants as word_case;
-ghost use Rattle.p8_lines.specs.Tokens.{tokens_from};
+ghost use Rattle.p8_lines.specs.Tokens.{left, left_behind};
 ghost use Rattle.p8_blocks.specs.Reading.{is_begun};
 ghost use Rattle.p8_blocks.specs.Standing.{IsHeadAt, Starts, word_of_head};
 
 use crate::words::{BlockWord, head_of};
-use p8_lexer::{Token, Tokens, Word, word_of};
+use p8_expr::TokenCursor;
+use p8_lexer::Word;
 use p8_tree::Place;
 
 /// What is known of the first token of a line.
@@ -30,24 +31,15 @@ fn is_begun(begun: Option<Place>) -> bool
     }
 }
 
-// The token of this number.
-fn token_at(tokens: &Tokens, at: usize) -> Token
-    requires { at < length tokens.now }
-    ensures { slice_get tokens.now at ≡ Some result }
-{
-    tokens.as_slice()[at]
-}
-
 impl First {
-    /// The first token of a line, of this number. `begun` is where the line begins, if not there.
-    pub fn at(bytes: &[u8], tokens: &Tokens, at: usize, begun: Option<Place>) -> First
-        requires { at < length tokens.now }
-        ensures { Starts (tokens_from bytes.now tokens.now at) (tokens_from bytes.now tokens.now (at + 1)) begun result }
+    /// The first token of a line, before which a cursor stands. `begun` is where the line begins, if not there.
+    pub fn at(here: &TokenCursor, begun: Option<Place>) -> First
+        requires { here.now.at < length here.now.tokens }
+        ensures { Starts (left here.now) (left_behind here.now) begun result }
     {
-        let token = token_at(tokens, at);
-        let place = token.place;
+        let place = here.place();
         First {
-            word: word_of(bytes, &token),
+            word: here.word(),
             place,
             begin: begun.unwrap_or(place),
             begun: is_begun(begun),

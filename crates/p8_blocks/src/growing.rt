@@ -3,7 +3,8 @@ ghost use Rattle.std.specs.Prelude.{◌≡◌, ◌≢◌, ◌<◌, ◌≤◌, �
 ghost use Rattle.p8_tree.specs.Views.{block_of, method_of, source_of, statements_of};
 ghost use Rattle.p8_tree.specs.Faults.{IfRefused};
 ghost use Rattle.p8_lexer.specs.declared.word.Word.TheVariants as word_case;
-ghost use Rattle.p8_lines.specs.Tokens.{tokens_from};
+ghost use Rattle.p8_expr.specs.Cursors.{IsLater};
+ghost use Rattle.p8_lines.specs.Tokens.{left, left_behind};
 ghost use Rattle.p8_blocks.specs.Reading.{Part, Position, start, at as position, Fails, AreBlocks, IsBlock};
 ghost use Rattle.p8_blocks.specs.Files.{with_body};
 ghost use Rattle.p8_blocks.specs.Standing.{Continues, IsHeadAt, IsOpen, StandsFor, Starts, word_of_head};
@@ -12,7 +13,7 @@ use crate::first::First;
 use crate::lines::{Extended, first_constants, read_head};
 use crate::words::BlockWord;
 use p8_columns::Blocks;
-use p8_lexer::Tokens;
+use p8_expr::TokenCursor;
 use p8_tree::{
     Block, ConItem, DatLine, Fault, List, Method, ObjItem, Place, SourceFile, Stmt, VarItem,
 };
@@ -39,14 +40,6 @@ pub struct Growing {
     pub current: Option<Open>,
     /// After the colon of a `CASE`'s item, where its line begins.
     pub begun: Option<Place>,
-}
-
-// The number of the token after that of this number.
-fn behind(tokens: &Tokens, at: usize) -> usize
-    requires { at < length tokens.now }
-    ensures { result ≡ at + 1 }
-{
-    tokens.len().min(at + 1)
 }
 
 // A method with this body.
@@ -86,32 +79,27 @@ impl Growing {
         }
     }
 
-    /// Reads the line from the token of this number on: gives the number of the token after it, or
-    /// the line's refusal.
+    /// Reads the line that begins where the cursor stands, and leaves the cursor behind it; or gives the
+    /// line's refusal.
     ///
     /// # Errors
     ///
     /// The line's refusal, or `NoMemory`; the blocks are then of no use.
-    pub fn line(
-        &mut self,
-        alloc: Global,
-        bytes: &[u8],
-        tokens: &Tokens,
-        at: usize,
-    ) -> Result<usize, Fail<Fault>>
-        requires { at < length tokens.now }
-        ensures within { IfOk result (λ end. (at < end) × (end ≤ length tokens.now + 1)) }
+    pub fn line(&mut self, alloc: Global, here: &mut TokenCursor) -> Result<(), Fail<Fault>>
+        requires { here.old.at < length here.old.tokens }
+        ensures later { IfOk result (λ _. IsLater here.old here.new) }
         ensures read { (x : Position) → StandsFor x self.old →
-            IfOk result (λ end. Continues x (tokens_from bytes.now tokens.now at) self.new (tokens_from bytes.now tokens.now end)) }
+            IfOk result (λ _. Continues x (left here.old) self.new (left here.new)) }
         ensures refused { (x : Position) → StandsFor x self.old →
-            IfErr result (IfRefused (λ f. Fails x (tokens_from bytes.now tokens.now at) f.number f.place)) }
+            IfErr result (IfRefused (λ f. Fails x (left here.old) f.number f.place)) }
     {
-        let first = First::at(bytes, tokens, at, self.begun);
+        let first = First::at(here, self.begun);
         if first.is_line_end() {
             self.begun = None;
-            Ok(behind(tokens, at))
+            here.advance();
+            Ok(())
         } else {
-            self.line_from(alloc, bytes, tokens, at, first)
+            self.line_from(alloc, here, first)
         }
     }
 
@@ -119,23 +107,21 @@ impl Growing {
     fn line_from(
         &mut self,
         alloc: Global,
-        bytes: &[u8],
-        tokens: &Tokens,
-        at: usize,
+        here: &mut TokenCursor,
         first: First,
-    ) -> Result<usize, Fail<Fault>>
-        requires within { at < length tokens.now }
-        requires starts { Starts (tokens_from bytes.now tokens.now at) (tokens_from bytes.now tokens.now (at + 1)) self.old.begun first }
+    ) -> Result<(), Fail<Fault>>
+        requires within { here.old.at < length here.old.tokens }
+        requires starts { Starts (left here.old) (left_behind here.old) self.old.begun first }
         requires not_end { first.word ≢ word_case.LineEnd }
-        ensures within { IfOk result (λ end. (at < end) × (end ≤ length tokens.now + 1)) }
+        ensures later { IfOk result (λ _. IsLater here.old here.new) }
         ensures read { (x : Position) → StandsFor x self.old →
-            IfOk result (λ end. Continues x (tokens_from bytes.now tokens.now at) self.new (tokens_from bytes.now tokens.now end)) }
+            IfOk result (λ _. Continues x (left here.old) self.new (left here.new)) }
         ensures refused { (x : Position) → StandsFor x self.old →
-            IfErr result (IfRefused (λ f. Fails x (tokens_from bytes.now tokens.now at) f.number f.place)) }
+            IfErr result (IfRefused (λ f. Fails x (left here.old) f.number f.place)) }
     {
         match first.head() {
-            Some(head) => self.head_line(alloc, bytes, tokens, at, first, head),
-            None => self.inner_line(alloc, bytes, tokens, at, first),
+            Some(head) => self.head_line(alloc, here, first, head),
+            None => self.inner_line(alloc, here, first),
         }
     }
 
@@ -143,25 +129,24 @@ impl Growing {
     fn head_line(
         &mut self,
         alloc: Global,
-        bytes: &[u8],
-        tokens: &Tokens,
-        at: usize,
+        here: &mut TokenCursor,
         first: First,
         head: BlockWord,
-    ) -> Result<usize, Fail<Fault>>
-        requires within { at < length tokens.now }
-        requires starts { Starts (tokens_from bytes.now tokens.now at) (tokens_from bytes.now tokens.now (at + 1)) self.old.begun first }
+    ) -> Result<(), Fail<Fault>>
+        requires within { here.old.at < length here.old.tokens }
+        requires starts { Starts (left here.old) (left_behind here.old) self.old.begun first }
         requires head { first.word ≡ word_of_head head }
         requires column { first.place.column ≡ 1 }
-        ensures within { IfOk result (λ end. (at < end) × (end ≤ length tokens.now + 1)) }
+        ensures later { IfOk result (λ _. IsLater here.old here.new) }
         ensures read { (x : Position) → StandsFor x self.old →
-            IfOk result (λ end. Continues x (tokens_from bytes.now tokens.now at) self.new (tokens_from bytes.now tokens.now end)) }
+            IfOk result (λ _. Continues x (left here.old) self.new (left here.new)) }
         ensures refused { (x : Position) → StandsFor x self.old →
-            IfErr result (IfRefused (λ f. Fails x (tokens_from bytes.now tokens.now at) f.number f.place)) }
+            IfErr result (IfRefused (λ f. Fails x (left here.old) f.number f.place)) }
     {
-        let (block, end) = read_head(alloc, bytes, tokens, behind(tokens, at), head)?;
+        here.advance();
+        let block = read_head(alloc, here, head)?;
         self.begin(alloc, block)?;
-        Ok(end)
+        Ok(())
     }
 
     // Begins a block; the one at hand is done.
@@ -182,42 +167,40 @@ impl Growing {
     fn inner_line(
         &mut self,
         alloc: Global,
-        bytes: &[u8],
-        tokens: &Tokens,
-        at: usize,
+        here: &mut TokenCursor,
         first: First,
-    ) -> Result<usize, Fail<Fault>>
-        requires within { at < length tokens.now }
-        requires starts { Starts (tokens_from bytes.now tokens.now at) (tokens_from bytes.now tokens.now (at + 1)) self.old.begun first }
+    ) -> Result<(), Fail<Fault>>
+        requires within { here.old.at < length here.old.tokens }
+        requires starts { Starts (left here.old) (left_behind here.old) self.old.begun first }
         requires not_end { first.word ≢ word_case.LineEnd }
         requires no_head { ¬ IsHeadAt first.word first.place }
-        ensures within { IfOk result (λ end. (at < end) × (end ≤ length tokens.now + 1)) }
+        ensures later { IfOk result (λ _. IsLater here.old here.new) }
         ensures read { (x : Position) → StandsFor x self.old →
-            IfOk result (λ end. Continues x (tokens_from bytes.now tokens.now at) self.new (tokens_from bytes.now tokens.now end)) }
+            IfOk result (λ _. Continues x (left here.old) self.new (left here.new)) }
         ensures refused { (x : Position) → StandsFor x self.old →
-            IfErr result (IfRefused (λ f. Fails x (tokens_from bytes.now tokens.now at) f.number f.place)) }
+            IfErr result (IfRefused (λ f. Fails x (left here.old) f.number f.place)) }
     {
         match self.current.take() {
             None => {
-                let line = first_constants(alloc, bytes, tokens, at)?;
-                Ok(self.extend(line))
+                let line = first_constants(alloc, here)?;
+                self.extend(line);
+                Ok(())
             }
             Some(block) => {
-                let line = block.extended(alloc, bytes, tokens, at, first)?;
-                Ok(self.extend(line))
+                let line = block.extended(alloc, here, first)?;
+                self.extend(line);
+                Ok(())
             }
         }
     }
 
-    // Puts the block at hand back, with one more line; gives the number of the token after that.
-    fn extend(&mut self, line: Extended) -> usize
-        ensures end { result ≡ line.end }
-        ensures stands { (p : Part) (ps : List Part) → IsOpen p line.block → AreBlocks ps (map block_of self.old.done) →
+    // Puts the block at hand back, with one more line.
+    fn extend(&mut self, line: Extended)
+        ensures { (p : Part) (ps : List Part) → IsOpen p line.block → AreBlocks ps (map block_of self.old.done) →
             StandsFor (position (p ∷ ps) line.begun) self.new }
     {
         self.current = Some(line.block);
         self.begun = line.begun;
-        line.end
     }
 
     /// The source of the lines read.

@@ -7,7 +7,8 @@ ghost use Rattle.p8_columns.specs.Lines as lines;
 ghost use Rattle.p8_columns.specs.Views.{kind_of};
 ghost use Rattle.p8_columns.specs.Taken.{HasTaken};
 ghost use Rattle.p8_lines.specs.declared.state.LineState.TheVariants as state_case;
-ghost use Rattle.p8_lines.specs.Tokens.{LineToken, tokens_from, word};
+ghost use Rattle.p8_expr.specs.Cursors.{IsLater};
+ghost use Rattle.p8_lines.specs.Tokens.{LineToken, left, left_behind, word};
 ghost use Rattle.p8_lines.specs.Lines.{refused, Reads};
 ghost use Rattle.p8_blocks.specs.Reading.{Part, constants, variables, objects, assembly, method as method_part, at as position, Fails, head_state};
 ghost use Rattle.p8_blocks.specs.Files.{lines_in, is_item};
@@ -20,7 +21,7 @@ use crate::growing::Open;
 use crate::statements::read_statement;
 use crate::words::BlockWord;
 use p8_columns::{Blocks, Line, LineKind};
-use p8_lexer::Tokens;
+use p8_expr::TokenCursor;
 use p8_lines::LineState;
 use p8_tree::{ConItem, DatLine, Fault, List, Method, ObjItem, Place, VarItem};
 use p8_words::Fail;
@@ -32,22 +33,15 @@ pub struct Extended {
     pub block: Open,
     /// After the colon of a `CASE`'s item, where its line begins.
     pub begun: Option<Place>,
-    /// The number of the token after the line.
-    pub end: usize,
 }
 
 impl Extended {
     // The line is whole.
-    fn new(block: Open, end: usize) -> Extended
+    fn new(block: Open) -> Extended
         ensures block { result.block ≡ block }
         ensures begun { result.begun ≡ None }
-        ensures end { result.end ≡ end }
     {
-        Extended {
-            block,
-            begun: None,
-            end,
-        }
+        Extended { block, begun: None }
     }
 }
 
@@ -75,140 +69,120 @@ fn lines_in(alloc: Global, line: Option<DatLine>) -> Result<List<DatLine>, Alloc
     }
 }
 
-/// Reads what follows a block's word on its line: gives the block, and the number of the token after
-/// the line.
+/// Reads what follows a block's word on its line, and gives the block.
 ///
 /// # Errors
 ///
 /// The line's refusal, or `NoMemory`.
 pub fn read_head(
     alloc: Global,
-    bytes: &[u8],
-    tokens: &Tokens,
-    at: usize,
+    here: &mut TokenCursor,
     head: BlockWord,
-) -> Result<(Open, usize), Fail<Fault>>
-    requires { at ≤ length tokens.now }
-    ensures within { IfOk result (λ r. (at < r.1) × (r.1 ≤ length tokens.now + 1)) }
+) -> Result<Open, Fail<Fault>>
+    requires { here.old.at ≤ length here.old.tokens }
+    ensures later { IfOk result (λ _. IsLater here.old here.new) }
     ensures read { (t : LineToken) → word t ≡ word_of_head head →
-        IfOk result (λ r. Begins t (tokens_from bytes.now tokens.now at) r.0 (tokens_from bytes.now tokens.now r.1)) }
-    ensures refused { IfErr result (IfRefused (λ f. Reads (head_state (word_of_head head)) (tokens_from bytes.now tokens.now at) (refused f.number f.place))) }
+        IfOk result (λ r. Begins t (left here.old) r (left here.new)) }
+    ensures refused { IfErr result (IfRefused (λ f. Reads (head_state (word_of_head head)) (left here.old) (refused f.number f.place))) }
 {
     match head {
         BlockWord::Con => {
-            let (items, end) = read_constants(alloc, bytes, tokens, at, LineState::ConHead)?;
-            Ok((Open::Constants(items), end))
+            let items = read_constants(alloc, here, LineState::ConHead)?;
+            Ok(Open::Constants(items))
         }
         BlockWord::Var => {
-            let (items, end) = read_variables(alloc, bytes, tokens, at, LineState::VarHead)?;
-            Ok((Open::Variables(items), end))
+            let items = read_variables(alloc, here, LineState::VarHead)?;
+            Ok(Open::Variables(items))
         }
         BlockWord::Obj => {
-            let (items, end) = read_objects(alloc, bytes, tokens, at, LineState::ObjHead)?;
-            Ok((Open::Objects(items), end))
+            let items = read_objects(alloc, here, LineState::ObjHead)?;
+            Ok(Open::Objects(items))
         }
         BlockWord::Pub => {
-            let (method, end) = read_method(alloc, bytes, tokens, at, true)?;
-            Ok((Open::Method(method, Blocks::new(alloc)), end))
+            let method = read_method(alloc, here, true)?;
+            Ok(Open::Method(method, Blocks::new(alloc)))
         }
         BlockWord::Pri => {
-            let (method, end) = read_method(alloc, bytes, tokens, at, false)?;
-            Ok((Open::Method(method, Blocks::new(alloc)), end))
+            let method = read_method(alloc, here, false)?;
+            Ok(Open::Method(method, Blocks::new(alloc)))
         }
         BlockWord::Dat => {
-            let (line, end) = read_data(alloc, bytes, tokens, at, LineState::DatHead)?;
-            Ok((Open::Data(lines_in(alloc, line)?), end))
+            let line = read_data(alloc, here, LineState::DatHead)?;
+            Ok(Open::Data(lines_in(alloc, line)?))
         }
     }
 }
 
 /// Reads a line before the first block: it begins a CON.
-pub fn first_constants(
-    alloc: Global,
-    bytes: &[u8],
-    tokens: &Tokens,
-    at: usize,
-) -> Result<Extended, Fail<Fault>>
-    requires { at ≤ length tokens.now }
-    ensures within { IfOk result (λ r. (at < r.end) × (r.end ≤ length tokens.now + 1)) }
-    ensures read { IfOk result (λ r. Added [] [] (tokens_from bytes.now tokens.now at) r (tokens_from bytes.now tokens.now r.end)) }
-    ensures refused { IfErr result (IfRefused (λ f. Reads state_case.ConItem (tokens_from bytes.now tokens.now at) (refused f.number f.place))) }
+pub fn first_constants(alloc: Global, here: &mut TokenCursor) -> Result<Extended, Fail<Fault>>
+    requires { here.old.at ≤ length here.old.tokens }
+    ensures later { IfOk result (λ _. IsLater here.old here.new) }
+    ensures read { IfOk result (λ r. Added [] [] (left here.old) r (left here.new)) }
+    ensures refused { IfErr result (IfRefused (λ f. Reads state_case.ConItem (left here.old) (refused f.number f.place))) }
 {
-    let (items, end) = read_constants(alloc, bytes, tokens, at, LineState::ConItem)?;
-    Ok(Extended::new(Open::Constants(items), end))
+    let items = read_constants(alloc, here, LineState::ConItem)?;
+    Ok(Extended::new(Open::Constants(items)))
 }
 
 // A line of CON.
 fn more_constants(
     alloc: Global,
-    bytes: &[u8],
-    tokens: &Tokens,
-    at: usize,
+    here: &mut TokenCursor,
     items: List<ConItem>,
 ) -> Result<Extended, Fail<Fault>>
-    requires { at ≤ length tokens.now }
-    ensures within { IfOk result (λ r. (at < r.end) × (r.end ≤ length tokens.now + 1)) }
-    ensures read { (ps : list Part) → IfOk result (λ r. Added (constants (map constant_of items) ∷ ps) ps (tokens_from bytes.now tokens.now at) r
-        (tokens_from bytes.now tokens.now r.end)) }
-    ensures refused { IfErr result (IfRefused (λ f. Reads state_case.ConItem (tokens_from bytes.now tokens.now at) (refused f.number f.place))) }
+    requires { here.old.at ≤ length here.old.tokens }
+    ensures later { IfOk result (λ _. IsLater here.old here.new) }
+    ensures read { (ps : list Part) → IfOk result (λ r. Added (constants (map constant_of items) ∷ ps) ps (left here.old) r (left here.new)) }
+    ensures refused { IfErr result (IfRefused (λ f. Reads state_case.ConItem (left here.old) (refused f.number f.place))) }
 {
-    let (more, end) = read_constants(alloc, bytes, tokens, at, LineState::ConItem)?;
-    Ok(Extended::new(Open::Constants(appended(items, more)?), end))
+    let more = read_constants(alloc, here, LineState::ConItem)?;
+    Ok(Extended::new(Open::Constants(appended(items, more)?)))
 }
 
 // A line of VAR.
 fn more_variables(
     alloc: Global,
-    bytes: &[u8],
-    tokens: &Tokens,
-    at: usize,
+    here: &mut TokenCursor,
     items: List<VarItem>,
 ) -> Result<Extended, Fail<Fault>>
-    requires { at ≤ length tokens.now }
-    ensures within { IfOk result (λ r. (at < r.end) × (r.end ≤ length tokens.now + 1)) }
-    ensures read { (ps : list Part) → IfOk result (λ r. Added (variables (map declared_of items) ∷ ps) ps (tokens_from bytes.now tokens.now at) r
-        (tokens_from bytes.now tokens.now r.end)) }
-    ensures refused { IfErr result (IfRefused (λ f. Reads state_case.VarLine (tokens_from bytes.now tokens.now at) (refused f.number f.place))) }
+    requires { here.old.at ≤ length here.old.tokens }
+    ensures later { IfOk result (λ _. IsLater here.old here.new) }
+    ensures read { (ps : list Part) → IfOk result (λ r. Added (variables (map declared_of items) ∷ ps) ps (left here.old) r (left here.new)) }
+    ensures refused { IfErr result (IfRefused (λ f. Reads state_case.VarLine (left here.old) (refused f.number f.place))) }
 {
-    let (more, end) = read_variables(alloc, bytes, tokens, at, LineState::VarLine)?;
-    Ok(Extended::new(Open::Variables(appended(items, more)?), end))
+    let more = read_variables(alloc, here, LineState::VarLine)?;
+    Ok(Extended::new(Open::Variables(appended(items, more)?)))
 }
 
 // A line of OBJ.
 fn more_objects(
     alloc: Global,
-    bytes: &[u8],
-    tokens: &Tokens,
-    at: usize,
+    here: &mut TokenCursor,
     items: List<ObjItem>,
 ) -> Result<Extended, Fail<Fault>>
-    requires { at ≤ length tokens.now }
-    ensures within { IfOk result (λ r. (at < r.end) × (r.end ≤ length tokens.now + 1)) }
-    ensures read { (ps : list Part) → IfOk result (λ r. Added (objects (map child_of items) ∷ ps) ps (tokens_from bytes.now tokens.now at) r
-        (tokens_from bytes.now tokens.now r.end)) }
-    ensures refused { IfErr result (IfRefused (λ f. Reads state_case.ObjLine (tokens_from bytes.now tokens.now at) (refused f.number f.place))) }
+    requires { here.old.at ≤ length here.old.tokens }
+    ensures later { IfOk result (λ _. IsLater here.old here.new) }
+    ensures read { (ps : list Part) → IfOk result (λ r. Added (objects (map child_of items) ∷ ps) ps (left here.old) r (left here.new)) }
+    ensures refused { IfErr result (IfRefused (λ f. Reads state_case.ObjLine (left here.old) (refused f.number f.place))) }
 {
-    let (more, end) = read_objects(alloc, bytes, tokens, at, LineState::ObjLine)?;
-    Ok(Extended::new(Open::Objects(appended(items, more)?), end))
+    let more = read_objects(alloc, here, LineState::ObjLine)?;
+    Ok(Extended::new(Open::Objects(appended(items, more)?)))
 }
 
 // A line of DAT.
 fn more_data(
     alloc: Global,
-    bytes: &[u8],
-    tokens: &Tokens,
-    at: usize,
+    here: &mut TokenCursor,
     lines: List<DatLine>,
 ) -> Result<Extended, Fail<Fault>>
-    requires { at ≤ length tokens.now }
-    ensures within { IfOk result (λ r. (at < r.end) × (r.end ≤ length tokens.now + 1)) }
-    ensures read { (ps : list Part) → IfOk result (λ r. Added (assembly (map line_of lines) ∷ ps) ps (tokens_from bytes.now tokens.now at) r
-        (tokens_from bytes.now tokens.now r.end)) }
-    ensures refused { IfErr result (IfRefused (λ f. Reads state_case.DatLine (tokens_from bytes.now tokens.now at) (refused f.number f.place))) }
+    requires { here.old.at ≤ length here.old.tokens }
+    ensures later { IfOk result (λ _. IsLater here.old here.new) }
+    ensures read { (ps : list Part) → IfOk result (λ r. Added (assembly (map line_of lines) ∷ ps) ps (left here.old) r (left here.new)) }
+    ensures refused { IfErr result (IfRefused (λ f. Reads state_case.DatLine (left here.old) (refused f.number f.place))) }
 {
-    let (line, end) = read_data(alloc, bytes, tokens, at, LineState::DatLine)?;
+    let line = read_data(alloc, here, LineState::DatLine)?;
     let more = lines_in(alloc, line)?;
-    Ok(Extended::new(Open::Data(appended(lines, more)?), end))
+    Ok(Extended::new(Open::Data(appended(lines, more)?)))
 }
 
 // Whether a line goes on after its colon.
@@ -235,32 +209,29 @@ fn begun_by(kind: &LineKind, first: First) -> Option<Place>
 // A line of a method.
 fn method_line(
     alloc: Global,
-    bytes: &[u8],
-    tokens: &Tokens,
-    at: usize,
+    here: &mut TokenCursor,
     first: First,
     method: Method,
     blocks: Blocks,
 ) -> Result<Extended, Fail<Fault>>
-    requires within { at < length tokens.now }
+    requires within { here.old.at < length here.old.tokens }
     requires token { IsToken first }
-    ensures within { IfOk result (λ r. (at < r.end) × (r.end ≤ length tokens.now + 1)) }
+    ensures later { IfOk result (λ _. IsLater here.old here.new) }
     ensures read { (b : Option tree_place.Place) (ls : list lines.Line) (ps : list Part) →
-        Inner (tokens_from bytes.now tokens.now at) (tokens_from bytes.now tokens.now (at + 1)) b first → HasTaken ls blocks →
-        IfOk result (λ r. Grown (method_part (method_of method) ls ∷ ps) ps b (tokens_from bytes.now tokens.now at) r
-        (tokens_from bytes.now tokens.now r.end)) }
+        Inner (left here.old) (left_behind here.old) b first → HasTaken ls blocks →
+        IfOk result (λ r. Grown (method_part (method_of method) ls ∷ ps) ps b (left here.old) r (left here.new)) }
     ensures refused { (b : Option tree_place.Place) (ls : list lines.Line) (ps : list Part) →
-        Inner (tokens_from bytes.now tokens.now at) (tokens_from bytes.now tokens.now (at + 1)) b first → HasTaken ls blocks →
-        IfErr result (IfRefused (λ f. Fails (position (method_part (method_of method) ls ∷ ps) b) (tokens_from bytes.now tokens.now at) f.number f.place)) }
+        Inner (left here.old) (left_behind here.old) b first → HasTaken ls blocks →
+        IfErr result (IfRefused (λ f. Fails (position (method_part (method_of method) ls ∷ ps) b) (left here.old) f.number f.place)) }
 {
-    let state = state_of_line(alloc, bytes, tokens, at, first, &blocks)?;
-    let (kind, end) = read_statement(alloc, bytes, tokens, at, state)?;
+    let state = state_of_line(alloc, here, first, &blocks)?;
+    let kind = read_statement(alloc, here, state)?;
     let begun = begun_by(&kind, first);
     let place = first.place;
     let mut blocks = blocks;
     blocks.take(alloc, Line { place, kind })?;
     let block = Open::Method(method, blocks);
-    Ok(Extended { block, begun, end })
+    Ok(Extended { block, begun })
 }
 
 impl Open {
@@ -272,29 +243,25 @@ impl Open {
     pub fn extended(
         self,
         alloc: Global,
-        bytes: &[u8],
-        tokens: &Tokens,
-        at: usize,
+        here: &mut TokenCursor,
         first: First,
     ) -> Result<Extended, Fail<Fault>>
-        requires within { at < length tokens.now }
+        requires within { here.old.at < length here.old.tokens }
         requires token { IsToken first }
-        ensures within { IfOk result (λ r. (at < r.end) × (r.end ≤ length tokens.now + 1)) }
+        ensures later { IfOk result (λ _. IsLater here.old here.new) }
         ensures read { (b : Option tree_place.Place) (p : Part) (ps : list Part) →
-            Inner (tokens_from bytes.now tokens.now at) (tokens_from bytes.now tokens.now (at + 1)) b first → IsOpen p self →
-            IfOk result (λ r. Grown (p ∷ ps) ps b (tokens_from bytes.now tokens.now at) r (tokens_from bytes.now tokens.now r.end)) }
+            Inner (left here.old) (left_behind here.old) b first → IsOpen p self →
+            IfOk result (λ r. Grown (p ∷ ps) ps b (left here.old) r (left here.new)) }
         ensures refused { (b : Option tree_place.Place) (p : Part) (ps : list Part) →
-            Inner (tokens_from bytes.now tokens.now at) (tokens_from bytes.now tokens.now (at + 1)) b first → IsOpen p self →
-            IfErr result (IfRefused (λ f. Fails (position (p ∷ ps) b) (tokens_from bytes.now tokens.now at) f.number f.place)) }
+            Inner (left here.old) (left_behind here.old) b first → IsOpen p self →
+            IfErr result (IfRefused (λ f. Fails (position (p ∷ ps) b) (left here.old) f.number f.place)) }
     {
         match self {
-            Open::Constants(items) => more_constants(alloc, bytes, tokens, at, items),
-            Open::Variables(items) => more_variables(alloc, bytes, tokens, at, items),
-            Open::Objects(items) => more_objects(alloc, bytes, tokens, at, items),
-            Open::Data(lines) => more_data(alloc, bytes, tokens, at, lines),
-            Open::Method(method, blocks) => {
-                method_line(alloc, bytes, tokens, at, first, method, blocks)
-            }
+            Open::Constants(items) => more_constants(alloc, here, items),
+            Open::Variables(items) => more_variables(alloc, here, items),
+            Open::Objects(items) => more_objects(alloc, here, items),
+            Open::Data(lines) => more_data(alloc, here, lines),
+            Open::Method(method, blocks) => { method_line(alloc, here, first, method, blocks) }
         }
     }
 }

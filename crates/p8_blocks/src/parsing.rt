@@ -18,6 +18,7 @@ use crate::laws::{
     files_are_not_refused, files_are_proper, files_are_read, one_answer, one_refusal,
     refusals_are_read, refusals_pass_limits, refusals_stand_first,
 };
+use p8_expr::TokenCursor;
 use p8_lexer::Tokens;
 use p8_tree::{Fault, SourceFile};
 use p8_words::Fail;
@@ -29,9 +30,9 @@ fn read_lines(alloc: Global, bytes: &[u8], tokens: &Tokens) -> Result<SourceFile
     ensures refused { IfErr result (IfRefused (λ f. Parses (all_tokens bytes.now tokens.now) (fault f.number f.place))) }
 {
     let mut file = Growing::new(alloc);
-    let mut at = 0;
-    'lines: while at < tokens.len() {
-        at = file.line(alloc, bytes, tokens, at)?;
+    let mut here = TokenCursor::new(bytes, tokens, 0);
+    'lines: while !here.is_at_end() {
+        file.line(alloc, &mut here)?;
     }
     Ok(file.finish(alloc)?)
 }

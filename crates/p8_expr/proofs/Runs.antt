@@ -1,6 +1,6 @@
 -- Reading an expression has one answer, and the answers of the code are it.
 use Rattle.std.proofs.Common.{◌≡◌, ◌∙◌, ℕ, suc, zero, ◌+◌, ◌-◌, ◌<◌, ◌≤◌, List, [], ◌∷◌, ◌++◌, length, take, drop, map, get_or, refl, sym, ap, subst, Option, Some, None, Bool, true, false, ◌⊎◌, inl, inr, append_assoc, take-add, arith}
-use Rattle.std.specs.Prelude.{◌↔◌, IsTrue, MatchOption, if◌then◌else◌, nat_lt, min, slice_get, option_and_then, option_map}
+use Rattle.std.specs.Prelude.{◌↔◌, IsTrue, MatchOption, if◌then◌else◌, nat_lt, slice_get, option_and_then, option_map, unwrap_or}
 use Rattle.std.proofs.lemmas.List.{take_more, length-drop, length-map, get_or-drop}
 use Rattle.std.proofs.lemmas.Bool.{ltb-true, ltb-false}
 use Rattle.std.proofs.lemmas.Option.{slice_get_within, slice_get_past, slice_get_read, slice_get-map, get_or_from_slice_get}
@@ -11,6 +11,7 @@ use Rattle.p8_lexer.specs.declared.token.Token as lexer_token
 use Rattle.p8_tree.specs.declared.refusal.Refusal.{Refusal}
 use Rattle.p8_tree.specs.declared.refusal.Refusal.TheVariants.{TooNested}
 use Rattle.p8_tree.specs.Refusals.{refusal_number}
+use Rattle.p8_lexer.specs.declared.word.Word.TheVariants as word
 use Rattle.p8_lexer.specs.Words.{word_of}
 use Rattle.p8_grammar.specs.Lexemes.{Setting, Token}
 use Rattle.p8_grammar.specs.Grammar.{IsExpression, IsFront, IsLongestFront}
@@ -24,7 +25,8 @@ use Rattle.p8_tree.specs.declared.faults.Fault.{Fault}
 use Rattle.p8_tree.proofs.Failing.{same_fault}
 use Rattle.p8_expr.specs.Words.{token_of}
 use Rattle.p8_expr.specs.Refusals.{refusal_of}
-use Rattle.p8_expr.specs.Parsing.{Outcome, tree, refused, Ends, whole, too_high, unfit, broken_off, Parses, IsFault, refusal_at, tokens_from}
+use Rattle.p8_expr.specs.Parsing.{Outcome, tree, refused, Ends, whole, too_high, unfit, broken_off, Parses, IsFault, IsFaultAt, refusal_at, tokens_from}
+use Rattle.p8_expr.specs.Cursors.{Spot, word_there, end_place, place_there}
 use Rattle.p8_expr.specs.Reading.{HasRead}
 
 -- one answer
@@ -195,10 +197,46 @@ has_tree s ts o x e h = subst (λ o. MatchOption o ((e : Tree) → ¬ IsExpressi
 pub has_none : (s : Setting) (ts : List Token) (o : Option Expr) → o ≡ None → MatchOption o ((e : Tree) → ¬ IsExpression s e ts) (λ x. IsExpression s (tree_of x) ts) → (e : Tree) → ¬ IsExpression s e ts
 has_none s ts o e h = subst (λ o. MatchOption o ((e : Tree) → ¬ IsExpression s e ts) (λ x. IsExpression s (tree_of x) ts)) e h
 
--- the token after the run, or the last one
-pub last_or_next : (end count m : ℕ) → end ≤ count → m ≡ min end (count - 1) → m ≡ (if nat_lt end count then end else end - 1)
-last_or_next end count m le e = go (nat_lt end count) refl
+-- refusals at a spot
+
+some_place : (s : Spot) (t : lexer_token.Token) → slice_get s.tokens s.at ≡ Some t → place_there s ≡ t.place
+some_place s t h = ap (λ (o : Option lexer_token.Token). unwrap_or (option_map (λ t. t.place) o) (end_place s.tokens)) h
+
+last_place : (s : Spot) (t : lexer_token.Token) → length s.tokens ≤ s.at → slice_get s.tokens (length s.tokens - 1) ≡ Some t → place_there s ≡ t.place
+last_place s t le h =
+    ap (λ (o : Option lexer_token.Token). unwrap_or (option_map (λ t. t.place) o) (end_place s.tokens)) (slice_get_past s.tokens s.at le) ∙
+    ap (λ (o : Option lexer_token.Token). unwrap_or (option_map (λ t. t.place) o) (record { line = 1; column = 1 })) h
+
+-- where there is no token
+pub none_within : {A : Type 0} (xs : List A) (at : ℕ) → slice_get xs at ≡ None → length xs ≤ at
+none_within [] at h = omega arith
+none_within (x ∷ xs) zero h = absurd cc
+none_within (x ∷ xs) (suc at) h = let n = none_within xs at h in omega (arith, n)
+
+pub fault_there : (r : Refusal) (s : Spot) (f : Fault) → s.at < length s.tokens → f.number ≡ refusal_number r → f.place ≡ place_there s → IsFaultAt r s.tokens s.at f
+fault_there r s f lt n p = go (slice_get s.tokens s.at) refl
   where
-    go : (b : Bool) → nat_lt end count ≡ b → m ≡ (if b then end else end - 1)
-    go true h = let lt : end < count = ltb-true _ _ h in omega (arith, lt, e)
-    go false h = let ge : count ≤ end = ltb-false _ _ h in omega (arith, ge, le, e)
+    go : (o : Option lexer_token.Token) → slice_get s.tokens s.at ≡ o → IsFaultAt r s.tokens s.at f
+    go None h = let le = none_within s.tokens s.at h in absurd (omega (arith, lt, le))
+    go (Some t) h = (t, h, n, p ∙ some_place s t h)
+
+-- at the token of the spot, or at the last one
+pub fault_next : (r : Refusal) (s : Spot) (f : Fault) → 0 < length s.tokens → s.at ≤ length s.tokens → f.number ≡ refusal_number r → f.place ≡ place_there s → IsFaultAt r s.tokens (if nat_lt s.at (length s.tokens) then s.at else s.at - 1) f
+fault_next r s f some le n p = go (nat_lt s.at (length s.tokens)) refl
+  where
+    last : (i : ℕ) (o : Option lexer_token.Token) → i ≡ length s.tokens - 1 → length s.tokens ≤ s.at → slice_get s.tokens i ≡ o → IsFaultAt r s.tokens i f
+    last i None e ge h = let w = none_within s.tokens i h in absurd (omega (arith, some, e, w))
+    last i (Some t) e ge h = (t, h, n, p ∙ last_place s t ge (ap (slice_get s.tokens) (sym e) ∙ h))
+
+    go : (b : Bool) → nat_lt s.at (length s.tokens) ≡ b → IsFaultAt r s.tokens (if b then s.at else s.at - 1) f
+    go true h = fault_there r s f (ltb-true _ _ h) n p
+    go false h = let ge : length s.tokens ≤ s.at = ltb-false _ _ h in last (s.at - 1) (slice_get s.tokens (s.at - 1)) (omega (arith, ge, le)) ge refl
+
+-- the refusal of what stands at a spot
+pub refusal_there : (k : Setting) (s : Spot) → refusal_of k (word_there s) ≡ refusal_at k s.bytes s.tokens s.at
+unfolding refusal_at refusal_of
+refusal_there k s = go (slice_get s.tokens s.at)
+  where
+    go : (o : Option lexer_token.Token) → refusal_of k (unwrap_or (option_map (word_of s.bytes) o) word.LineEnd) ≡ option_and_then (λ t. refusal_of k (word_of s.bytes t)) o
+    go None = refl
+    go (Some t) = refl

@@ -3,5 +3,6 @@ pub mod Words
 pub mod Refusals
 pub mod Parsing
 pub mod Sources
+pub mod Cursors
 -- internal: the reader of the code.
 pub mod Reading

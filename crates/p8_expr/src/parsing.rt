@@ -1,5 +1,5 @@
 // Reading an expression from tokens.
-ghost use Rattle.std.specs.Prelude.{◌≡◌, ◌<◌, ◌≤◌, ◌++◌, ◌∷◌, [], ◌↔◌, ℕ, List, IfOk, IfErr, IsTrue, if◌then◌else◌, length, slice_get, Some};
+ghost use Rattle.std.specs.Prelude.{◌≡◌, ◌<◌, ◌≤◌, ◌++◌, ◌∷◌, [], ◌↔◌, ℕ, List, IfOk, IfErr, IsTrue, if◌then◌else◌, length};
 ghost use Rattle.p8_lexer.specs.declared.token.Token as lexer_token;
 ghost use Rattle.p8_tree.specs.Views.{tree_of};
 ghost use Rattle.p8_grammar.specs.Lexemes as lexemes;
@@ -10,13 +10,15 @@ ghost use Rattle.p8_grammar.specs.Views.{setting_of};
 ghost use Rattle.p8_tree.specs.declared.faults.Fault.{Fault};
 ghost use Rattle.p8_tree.specs.Faults.{IfRefused};
 ghost use Rattle.p8_expr.specs.Words.{token_of};
-ghost use Rattle.p8_expr.specs.Parsing.{Outcome, tree, greatest_height, Parses, IsFault, IsFaultAt, refusal_at};
+ghost use Rattle.p8_expr.specs.Cursors.{moved};
+ghost use Rattle.p8_expr.specs.Parsing.{Outcome, tree, greatest_height, Parses, IsFault};
 ghost use Rattle.p8_expr.specs.Reading.{HasRead};
 
 use crate::refusals::refusal_of;
+use crate::token_cursor::TokenCursor;
 use crate::words::lexeme;
 use p8_grammar::{Reader, Setting};
-use p8_lexer::{Token, Tokens, word_of};
+use p8_lexer::{Token, Tokens};
 use p8_tree::{Expr, Fault, Refusal};
 use p8_words::{Fail, NoMemory};
 use std::alloc::Global;
@@ -64,42 +66,59 @@ pub fn parse_expr_in(
     ensures read { IfOk result (λ read. Parses (setting_of setting) height bytes.now tokens.now at (tree (tree_of read.0) read.1)) }
     ensures refused { IfErr result (IfRefused (IsFault (setting_of setting) height bytes.now tokens.now at)) }
 {
-    let (reader, end) = longest_run(alloc, bytes, tokens, at, setting, height)?;
+    let mut here = TokenCursor::new(bytes, tokens, at);
+    let expr = read_expr(alloc, &mut here, setting, height)?;
+    Ok((expr, here.at()))
+}
+
+/// Reads an expression as [`parse_expr_in`] does, from where a cursor stands: then it stands behind the
+/// expression.
+pub fn read_expr(
+    alloc: Global,
+    here: &mut TokenCursor,
+    setting: Setting,
+    height: u8,
+) -> Result<Expr, Fail<Fault>>
+    requires within { here.old.at < length here.old.tokens }
+    requires limit { height ≤ greatest_height }
+    ensures moved { IfOk result (λ _. here.new ≡ moved here.old here.new.at) }
+    ensures read { IfOk result (λ e. Parses (setting_of setting) height here.old.bytes here.old.tokens here.old.at (tree (tree_of e) here.new.at)) }
+    ensures refused { IfErr result (IfRefused (IsFault (setting_of setting) height here.old.bytes here.old.tokens here.old.at)) }
+{
+    let begin = here.place();
+    let reader = longest_run(alloc, here, setting, height)?;
     if reader.is_higher_than(height) {
         reader.discard();
-        return Err(Fail::Refused(fault(Refusal::TooNested, tokens, at)));
+        return Err(Fail::Refused(Refusal::TooNested.at(begin)));
     }
-    if let Some(refusal) = refusal_at(bytes, tokens, end, setting) {
+    if let Some(refusal) = refusal_of(setting, here.word()) {
         reader.discard();
-        return Err(Fail::Refused(fault(refusal, tokens, end)));
+        return Err(Fail::Refused(refusal.at(here.place())));
     }
     match reader.finish(alloc)? {
-        Some(expr) => Ok((expr, end)),
-        None => Err(Fail::Refused(fault(Refusal::Unexpected, tokens, end.min(tokens.len() - 1)))),
+        Some(expr) => Ok(expr),
+        None => Err(Fail::Refused(Refusal::Unexpected.at(here.place()))),
     }
 }
 
-// Takes the longest run of tokens from one on that begins an expression, but stops where it is
-// higher than this height already, so that no tree grows much higher: gives the reader that took
-// them, and the number of the token after them.
+// Takes the longest run of tokens that begins an expression, but stops where it is higher than this
+// height already, so that no tree grows much higher: gives the reader that took them.
 fn longest_run(
     alloc: Global,
-    bytes: &[u8],
-    tokens: &Tokens,
-    at: usize,
+    here: &mut TokenCursor,
     setting: Setting,
     height: u8,
-) -> Result<(Reader, usize), NoMemory>
-    requires within { at ≤ length tokens.now }
+) -> Result<Reader, NoMemory>
+    requires within { here.old.at ≤ length here.old.tokens }
     requires limit { height ≤ greatest_height }
-    ensures { IfOk result (λ read. HasRead (setting_of setting) height bytes.now tokens.now at read.0 read.1) }
+    ensures moved { IfOk result (λ _. here.new ≡ moved here.old here.new.at) }
+    ensures read { IfOk result (λ reader. HasRead (setting_of setting) height here.old.bytes here.old.tokens here.old.at reader here.new.at) }
 {
+    let bytes = here.bytes();
     let mut reader = Reader::new(alloc, setting);
-    let mut end = at;
-    'run: while end < tokens.len() {
-        let token = token_at(tokens, end);
+    'run: while let Some(token) = here.token() {
         if reader.is_higher_than(height) {
-            return Ok((reader, end));
+            return Ok(reader);
         }
         let begins = match take(alloc, bytes, &token, &mut reader) {
             Ok(begins) => begins,
@@ -109,11 +128,11 @@ fn longest_run(
             }
         };
         if !begins {
-            return Ok((reader, end));
+            return Ok(reader);
         }
-        end += 1;
+        here.advance();
     }
-    Ok((reader, end))
+    Ok(reader)
 }
 
 // Takes a token where what was taken and it begin an expression, and says whether they do.
@@ -127,31 +146,6 @@ fn take(alloc: Global, bytes: &[u8], token: &Token, reader: &mut Reader) -> Resu
     let lexeme = lexeme(alloc, bytes, token)?;
     let begins = reader.take(alloc, token.place, lexeme)?;
     Ok(begins)
-}
-
-// The refusal of the token of this number, where it is refused by itself.
-#[tactic(auto, unfolding(crate::specs::Parsing::refusal_at))]
-fn refusal_at(bytes: &[u8], tokens: &Tokens, at: usize, setting: Setting) -> Option<Refusal>
-    ensures { result ≡ refusal_at (setting_of setting) bytes.now tokens.now at }
-{
-    let token = tokens.get(at)?;
-    refusal_of(setting, word_of(bytes, &token))
-}
-
-// What is told of a refusal at the token of this number.
-fn fault(refusal: Refusal, tokens: &Tokens, at: usize) -> Fault
-    requires { at < length tokens.now }
-    ensures { IsFaultAt refusal tokens.now at result }
-{
-    refusal.at(token_at(tokens, at).place)
-}
-
-// The token of this number.
-fn token_at(tokens: &Tokens, at: usize) -> Token
-    requires { at < length tokens.now }
-    ensures { slice_get tokens.now at ≡ Some result }
-{
-    tokens.as_slice()[at]
 }
 
 /// Reading from a token on has one answer, in each setting and with each limit of heights: one tree

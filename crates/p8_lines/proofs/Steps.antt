@@ -1,7 +1,7 @@
 -- The steps of reading a line, as the code takes them.
 use Rattle.std.proofs.Common.{◌≡◌, ◌≢◌, ◌⊎◌, inl, inr, ℕ, ◌+◌, ◌-◌, ◌<◌, ◌≤◌, Bool, true, false, length, List, [], ◌∷◌, ◌++◌, Option, Some, None, refl, sym, ap, ◌∙◌, subst, append_assoc, arith}
-use Rattle.std.specs.Prelude.{nat_lt, option_map}
-use Rattle.std.proofs.lemmas.Bool.{ltb-true, ltb-false}
+use Rattle.std.specs.Prelude.{IsTrue, ◌↔◌, nat_lt, option_map}
+use Rattle.std.proofs.lemmas.Bool.{cases_lt, ltb-true, ltb-false}
 use Rattle.std.proofs.lemmas.Option.{slice_get_past}
 use Rattle.p8_tree.specs.declared.places.Place.{Place}
 use Rattle.p8_tree.specs.Expressions.{Tree}
@@ -13,6 +13,8 @@ use Rattle.p8_grammar.specs.Lexemes.{Setting}
 use Rattle.p8_tree.specs.declared.faults.Fault.{Fault}
 use Rattle.p8_tree.specs.Faults.{IfRefused}
 use Rattle.p8_expr.specs.Parsing.{tree, Parses, IsFault}
+use Rattle.p8_expr.specs.Cursors.{Spot, moved}
+use Rattle.p8_expr.proofs.Runs.{refuted}
 use Rattle.p8_lexer.specs.Pieces as pieces
 use Rattle.p8_lexer.specs.Pieces.{Piece}
 use Rattle.p8_lines.specs.declared.arrow.Arrow.{Arrow}
@@ -22,7 +24,7 @@ use Rattle.p8_lines.specs.Diagram.{Phrase, choices, setting_at}
 use Rattle.p8_lines.specs.Tokens as line_tokens
 use Rattle.p8_lines.specs.Tokens.{LineToken, piece, tokens_from}
 use Rattle.p8_lines.specs.Lines.{Follows, behind, piece_in, greatest_height, Leads, nowhere, number_of, Reads, read, refused}
-use Rattle.p8_lines.specs.Stopping.{token_at, run, FitsSetting, Stops, Goes, Advances}
+use Rattle.p8_lines.specs.Stopping.{token_at, next, run, FitsSetting, Stops, Goes, Advances}
 use Rattle.p8_lines.proofs.Rows.{leads_on}
 use Rattle.p8_lines.proofs.Readings.{leads_fits, reads_line, reads_stop}
 use Rattle.p8_lines.proofs.Texts.{is_end}
@@ -41,6 +43,14 @@ phrase_none (Some h) e = absurd cc
 pub phrase_some : (o : Option Phrase) (k : Setting) → option_map (λ h. h.setting) o ≡ Some k → (h : Phrase) × (o ≡ Some h) × (h.setting ≡ k)
 phrase_some None k e = absurd cc
 phrase_some (Some h) k e = (h, refl, cc)
+
+-- a token is left
+pub not_ended : (s : Spot) (b : Bool) → b ≡ false → (IsTrue b ↔ (length s.tokens ≤ s.at)) → s.at < length s.tokens
+not_ended s b e h = go (cases_lt s.at (length s.tokens))
+  where
+    go : (s.at < length s.tokens) ⊎ (length s.tokens ≤ s.at) → s.at < length s.tokens
+    go (inl lt) = lt
+    go (inr le) = absurd (refuted b (length s.tokens ≤ s.at) e h le)
 
 -- reading it
 
@@ -74,29 +84,32 @@ stops_behind_tree s bytes tokens at end q k e arrows n p lt expects parses unfol
 end_word : (bytes : List ℕ) (tokens : List lexer_token.Token) (at : ℕ) → length tokens < at + 1 → line_tokens.word (token_at bytes tokens at) ≡ word.LineEnd
 end_word bytes tokens at lt = ap line_tokens.word (is_end bytes tokens at (slice_get_past tokens at (omega (arith, lt))))
 
-pub arrow_step : (bytes : List ℕ) (tokens : List lexer_token.Token) (at m : ℕ) (q r : LineState) (old new : List Piece) → at ≤ length tokens → Follows (choices q).arrows (token_at bytes tokens at) r → new ≡ old ++ piece_in q (token_at bytes tokens at) ∷ [] → m ≡ at + 1 → Advances bytes tokens at m q old new r
-arrow_step bytes tokens at m q r old new le f kept e = subst (λ m. Advances bytes tokens at m q old new r) (sym e) (record {
-  row = piece_in q (token_at bytes tokens at) ∷ [];
+pub arrow_step : (s t : Spot) (q r : LineState) (old new : List Piece) → s.at ≤ length s.tokens → Follows (choices q).arrows (next s) r → new ≡ old ++ piece_in q (next s) ∷ [] → t ≡ moved s (s.at + 1) → Advances s t q old new r
+arrow_step s t q r old new le f kept e = subst (λ t. Advances s t q old new r) (sym e) (record {
+  row = piece_in q (next s) ∷ [];
   kept = kept;
-  goes = arrow_goes bytes tokens at q r le f;
+  goes = arrow_goes s.bytes s.tokens s.at q r le f;
+  same = refl;
   onward = omega arith;
   within = omega (arith, le);
-  ended = λ lt. line_end_over q r (token_at bytes tokens at) f (end_word bytes tokens at lt);
+  ended = λ lt. line_end_over q r (next s) f (end_word s.bytes s.tokens s.at lt);
 })
 
-pub tree_step : (bytes : List ℕ) (tokens : List lexer_token.Token) (at end m : ℕ) (q r : LineState) (k : Setting) (e : Tree) (arrows : List Arrow) (old middle new : List Piece) → at < length tokens → option_map (λ h. h.setting) (choices q).phrase ≡ Some k → ((h : Phrase) → (choices q).phrase ≡ Some h → Parses h.setting greatest_height bytes tokens at (tree e end)) → ((h : Phrase) → (choices q).phrase ≡ Some h → arrows ≡ behind h (run bytes tokens at (end - at))) → Follows arrows (token_at bytes tokens end) r → middle ≡ old ++ pieces.tree e (token_at bytes tokens at).place ∷ [] → new ≡ middle ++ piece (token_at bytes tokens end) ∷ [] → m ≡ end + 1 → Advances bytes tokens at m q old new r
-tree_step bytes tokens at end m q r k e arrows old middle new lt expects parses arrows_are f first second behind_it =
+pub tree_step : (s t : Spot) (end : ℕ) (q r : LineState) (k : Setting) (e : Tree) (arrows : List Arrow) (old middle new : List Piece) → s.at < length s.tokens → option_map (λ h. h.setting) (choices q).phrase ≡ Some k → ((h : Phrase) → (choices q).phrase ≡ Some h → Parses h.setting greatest_height s.bytes s.tokens s.at (tree e end)) → ((h : Phrase) → (choices q).phrase ≡ Some h → arrows ≡ behind h (run s.bytes s.tokens s.at (end - s.at))) → Follows arrows (next (moved s end)) r → middle ≡ old ++ pieces.tree e (next s).place ∷ [] → new ≡ middle ++ piece (next (moved s end)) ∷ [] → t ≡ moved s (end + 1) → Advances s t q old new r
+tree_step s t end q r k e arrows old middle new lt expects parses arrows_are f first second behind_it =
     let y = phrase_some (choices q).phrase k expects in
     let h = y.0 in
-    let x = spelled h bytes tokens at end e lt (parses h y.1) in
-    let g : Follows (behind h (run bytes tokens at (end - at))) (token_at bytes tokens end) r = subst (λ l. Follows l (token_at bytes tokens end) r) (arrows_are h y.1) f in
-    subst (λ m. Advances bytes tokens at m q old new r) (sym behind_it) (record {
-      row = pieces.tree e (token_at bytes tokens at).place ∷ piece (token_at bytes tokens end) ∷ [];
-      kept = second ∙ ap (λ l. l ++ piece (token_at bytes tokens end) ∷ []) first ∙ append_assoc old (pieces.tree e (token_at bytes tokens at).place ∷ []) (piece (token_at bytes tokens end) ∷ []);
-      goes = tree_goes bytes tokens at end q r h e y.1 x g;
+    let u = next (moved s end) in
+    let x = spelled h s.bytes s.tokens s.at end e lt (parses h y.1) in
+    let g : Follows (behind h (run s.bytes s.tokens s.at (end - s.at))) u r = subst (λ l. Follows l u r) (arrows_are h y.1) f in
+    subst (λ t. Advances s t q old new r) (sym behind_it) (record {
+      row = pieces.tree e (next s).place ∷ piece u ∷ [];
+      kept = second ∙ ap (λ l. l ++ piece u ∷ []) first ∙ append_assoc old (pieces.tree e (next s).place ∷ []) (piece u ∷ []);
+      goes = tree_goes s.bytes s.tokens s.at end q r h e y.1 x g;
+      same = refl;
       onward = (let o = x.ordered in omega (arith, o));
       within = (let w = within x in omega (arith, w));
-      ended = λ lt. line_end_behind q r h (run bytes tokens at (end - at)) (token_at bytes tokens end) y.1 g (end_word bytes tokens end lt);
+      ended = λ lt. line_end_behind q r h (run s.bytes s.tokens s.at (end - s.at)) u y.1 g (end_word s.bytes s.tokens end lt);
     })
 
 -- the whole line
@@ -104,12 +117,12 @@ tree_step bytes tokens at end m q r k e arrows old middle new lt expects parses 
 pub begin_goes : (bytes : List ℕ) (tokens : List lexer_token.Token) (at : ℕ) (q : LineState) (row : List Piece) → row ≡ [] → Goes bytes tokens at at q row q
 begin_goes bytes tokens at q row e = subst (λ row. Goes bytes tokens at at q row q) (sym e) (record { taken = []; split = refl; leads = nowhere })
 
-pub goes_further : {bytes : List ℕ} {tokens : List lexer_token.Token} {at end end' : ℕ} {q r s : LineState} {row new : List Piece} → Goes bytes tokens at end q row r → Advances bytes tokens end end' r row new s → Goes bytes tokens at end' q new s
-goes_further {bytes = bytes} {tokens = tokens} {at = at} {end = end} {end' = end'} {q = q} {s = s} x y =
+pub goes_further : {s t : Spot} {end : ℕ} {q r r' : LineState} {row new : List Piece} → Goes s.bytes s.tokens s.at end q row r → Advances (moved s end) t r row new r' → Goes s.bytes s.tokens s.at t.at q new r'
+goes_further {s = s} {t = t} {q = q} {r' = r'} x y =
     record {
       taken = x.taken ++ y.goes.taken;
-      split = x.split ∙ ap (λ l. x.taken ++ l) y.goes.split ∙ sym (append_assoc x.taken y.goes.taken (tokens_from bytes tokens end'));
-      leads = subst (λ l. Leads q (x.taken ++ y.goes.taken) l s) (sym y.kept) (leads_on x.leads y.goes.leads);
+      split = x.split ∙ ap (λ l. x.taken ++ l) y.goes.split ∙ sym (append_assoc x.taken y.goes.taken (tokens_from s.bytes s.tokens t.at));
+      leads = subst (λ l. Leads q (x.taken ++ y.goes.taken) l r') (sym y.kept) (leads_on x.leads y.goes.leads);
     }
 
 pub still_within : (n end : ℕ) (r : LineState) → (n < end → r ≡ state.End) → r ≢ state.End → end ≤ n

@@ -34,12 +34,6 @@ is_at bytes tokens at t h = ap (λ o. unwrap_or (option_map (line_token bytes) o
 pub is_end : (bytes : List ℕ) (tokens : List lexer_token.Token) (at : ℕ) → slice_get tokens at ≡ None → token_at bytes tokens at ≡ text_end (map (line_token bytes) tokens)
 is_end bytes tokens at h = ap (λ o. unwrap_or (option_map (line_token bytes) o) (text_end (map (line_token bytes) tokens))) h
 
--- where there is no token
-pub none_within : {A : Type 0} (xs : List A) (at : ℕ) → slice_get xs at ≡ None → length xs ≤ at
-none_within [] at h = omega arith
-none_within (x ∷ xs) zero h = absurd cc
-none_within (x ∷ xs) (suc at) h = let n = none_within xs at h in omega (arith, n)
-
 -- the place of the text's end is that of its last token
 pub last_is : (bytes : List ℕ) (tokens : List lexer_token.Token) (i : ℕ) (t : lexer_token.Token) → i + 1 ≡ length tokens → slice_get tokens i ≡ Some t → (text_end (map (line_token bytes) tokens)).place ≡ t.place
 last_is bytes tokens i t h g = go (record { line = 1; column = 1 }) tokens i h g

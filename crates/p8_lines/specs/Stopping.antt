@@ -7,6 +7,7 @@ use Rattle.p8_tree.specs.declared.refusal.Refusal.TheVariants.{TooNested}
 use Rattle.p8_tree.specs.Refusals.{refusal_number}
 use Rattle.p8_grammar.specs.Lexemes.{Setting}
 use Rattle.p8_expr.specs.Refusals.{refusal_of}
+use Rattle.p8_expr.specs.Cursors.{Spot, moved}
 use Rattle.p8_lexer.specs.Pieces.{Piece}
 use Rattle.p8_lines.specs.declared.state.LineState.{LineState}
 use Rattle.p8_lines.specs.declared.state.LineState.TheVariants as state
@@ -17,6 +18,9 @@ use Rattle.p8_lines.specs.Lines.{Row, Begins, Leads, IsTooHigh, HasTooHigh, numb
 -- the token of this number, or the text's end
 abbrev pub token_at : List ℕ → List lexer_token.Token → ℕ → LineToken
 token_at bytes tokens at = unwrap_or (option_map (line_token bytes) (slice_get tokens at)) (text_end (map (line_token bytes) tokens))
+
+abbrev pub next : Spot → LineToken
+next s = token_at s.bytes s.tokens s.at
 
 -- so many tokens from one on
 abbrev pub run : List ℕ → List lexer_token.Token → ℕ → ℕ → List LineToken
@@ -39,11 +43,12 @@ pub record Goes (bytes : List ℕ) (tokens : List lexer_token.Token) (at end : �
   pub split : tokens_from bytes tokens at ≡ taken ++ tokens_from bytes tokens end
   pub leads : Leads q taken row r
 
--- they are read: their pieces stand after the others, and nothing but a line's end ends a text
-pub record Advances (bytes : List ℕ) (tokens : List lexer_token.Token) (at end : ℕ) (q : LineState) (old new : List Piece) (r : LineState) : Type 0 where
+-- From a spot to another one they are read: their pieces stand after the others, and nothing but a line's end ends a text.
+pub record Advances (s t : Spot) (q : LineState) (old new : List Piece) (r : LineState) : Type 0 where
   pub row : List Piece
   pub kept : new ≡ old ++ row
-  pub goes : Goes bytes tokens at end q row r
-  pub onward : at < end
-  pub within : end ≤ length tokens + 1
-  pub ended : length tokens < end → r ≡ state.End
+  pub goes : Goes s.bytes s.tokens s.at t.at q row r
+  pub same : t ≡ moved s t.at
+  pub onward : s.at < t.at
+  pub within : t.at ≤ length s.tokens + 1
+  pub ended : length s.tokens < t.at → r ≡ state.End

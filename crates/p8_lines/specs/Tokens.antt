@@ -1,5 +1,5 @@
 -- The tokens of a source, as lines have them.
-use Rattle.std.specs.Prelude.{ℕ, List, [], ◌∷◌, ◌++◌, map, drop, length, unwrap_or}
+use Rattle.std.specs.Prelude.{ℕ, ◌+◌, List, [], ◌∷◌, ◌++◌, map, drop, length, unwrap_or}
 use Rattle.p8_tree.specs.declared.places.Place.{Place}
 use Rattle.p8_lexer.specs.declared.word.Word.{Word}
 use Rattle.p8_lexer.specs.declared.token.Token as lexer_token
@@ -10,6 +10,7 @@ use Rattle.p8_lexer.specs.Words.{word_of_kind}
 use Rattle.p8_grammar.specs.Lexemes as lexemes
 use Rattle.p8_grammar.specs.Lexemes.{Lexeme, token}
 use Rattle.p8_expr.specs.Words.{lexeme_by_kind, between_quotes}
+use Rattle.p8_expr.specs.Cursors.{Spot}
 use Rattle.p8_lexer.specs.Pieces as pieces
 use Rattle.p8_lexer.specs.Pieces.{Piece}
 
@@ -73,3 +74,10 @@ all_tokens bytes tokens = with_end (map (line_token bytes) tokens)
 -- from the one of this number on
 abbrev pub tokens_from : List ℕ → List lexer_token.Token → ℕ → List LineToken
 tokens_from bytes tokens at = drop at (all_tokens bytes tokens)
+
+-- from a spot on, and behind the first of those
+abbrev pub left : Spot → List LineToken
+left s = tokens_from s.bytes s.tokens s.at
+
+abbrev pub left_behind : Spot → List LineToken
+left_behind s = tokens_from s.bytes s.tokens (s.at + 1)

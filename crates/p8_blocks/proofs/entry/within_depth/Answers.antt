@@ -1,4 +1,4 @@
-use Rattle.p8_lines.specs.Tokens.{LineToken, tokens_from, word}
+use Rattle.p8_lines.specs.Tokens.{LineToken, left, word}
 use Rattle.p8_blocks.specs.Reading.{at, method, is_begun, Enters, from, Fails}
 use Rattle.std.proofs.Common.{◌≡◌, ◌∷◌, sym, subst}
 use Rattle.p8_blocks.specs.Standing.{TellsTooDeep}
@@ -14,7 +14,7 @@ returns-then-has_no_loop-clause-refused c = λ b m ls ps s h f.
 pub returns-then-is_too_deep-clause-refused : goal.returns-then-is_too_deep-clause-refused
 returns-then-is_too_deep-clause-refused c = λ b m ls ps s h i.
     let e : (t : LineToken) → word t ≡ c.args.first.word → t.place ≡ c.args.first.place → Enters ls (is_begun b) t (from c.args.state) = λ t w p. subst (λ x. Enters ls x t (from c.args.state)) (sym s.is.same_begun) (i t w p) in
-    let ts = tokens_from c.args.bytes.now c.args.tokens.now c.args.at in
+    let ts = left c.args.here.now in
     let q = c.args.state in
     let w = s.is.same_word in
     let p = s.is.same_place in

@@ -1,10 +1,9 @@
 use Rattle.std.proofs.Common.{map, [], refl}
 use Rattle.p8_tree.specs.Views.{constant_of}
-use Rattle.p8_lines.specs.Tokens.{tokens_from}
 use Rattle.p8_blocks.specs.Reading as files
 use Rattle.p8_blocks.specs.Reading.{constants}
 use Rattle.p8_blocks.proofs.Stepping.{added}
 use Rattle.p8_blocks.proofs.lines.first_constants.Goals as goal
 
 pub returns-clause-read : goal.returns-clause-read
-returns-clause-read c = added [] [] (constants (map constant_of c.in_ok-items.items)) c.new.result (tokens_from c.args.bytes.now c.args.tokens.now) c.new.ensures.block c.new.ensures.begun c.new.ensures.end refl (files.first_constants c.in_ok-items.ensures.read)
+returns-clause-read c = added [] [] (constants (map constant_of c.in_ok-items.items)) c.new.result c.new.ensures.block c.new.ensures.begun refl (files.first_constants c.in_ok-items.ensures.read)

@@ -3,7 +3,7 @@ use Rattle.p8_tree.specs.Views.{method_of}
 use Rattle.p8_tree.specs.Faults.{IfRefused}
 use Rattle.p8_columns.specs.Columns.{FitsAs}
 use Rattle.p8_columns.specs.Views.{kind_of}
-use Rattle.p8_lines.specs.Tokens.{tokens_from}
+use Rattle.p8_lines.specs.Tokens.{left}
 use Rattle.p8_lines.specs.Lines.{refused, Reads}
 use Rattle.p8_blocks.specs.Reading.{at, method, Fails}
 use Rattle.p8_tree.proofs.Failing.{refused_so}
@@ -18,7 +18,7 @@ take-requires c = λ ls h.
 
 pub returns-in_err-kind-clause-refused : goal.returns-in_err-kind-clause-refused
 returns-in_err-kind-clause-refused c = λ b ls ps s h.
-    let ts = tokens_from c.args.bytes.now c.args.tokens.now c.args.at in
+    let ts = left c.args.here.now in
     let q = c.in_ok-state.state in
     let m = method_of c.args.method in
     told c.from_residual-in_err-kind.result _ (IfRefused (λ f. Fails (at (method m ls ∷ ps) b) ts f.number f.place)) c.from_residual-in_err-kind.ensures.1
@@ -27,7 +27,7 @@ returns-in_err-kind-clause-refused c = λ b ls ps s h.
 
 pub returns-in_err-state-clause-refused : goal.returns-in_err-state-clause-refused
 returns-in_err-state-clause-refused c = λ b ls ps s h.
-    let ts = tokens_from c.args.bytes.now c.args.tokens.now c.args.at in
+    let ts = left c.args.here.now in
     let m = method_of c.args.method in
     told c.from_residual.result _ (IfRefused (λ f. Fails (at (method m ls ∷ ps) b) ts f.number f.place)) c.from_residual.ensures.1 (c.in_err-state.ensures.refused b m ls ps s h)
 

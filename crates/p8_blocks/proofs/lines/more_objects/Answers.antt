@@ -1,6 +1,5 @@
 use Rattle.std.proofs.Common.{map, ◌++◌, ◌∷◌, ap}
 use Rattle.p8_tree.specs.Views.{child_of}
-use Rattle.p8_lines.specs.Tokens.{tokens_from}
 use Rattle.p8_blocks.specs.Reading as files
 use Rattle.p8_blocks.specs.Reading.{objects}
 use Rattle.p8_blocks.proofs.Stepping.{added, appended_view}
@@ -10,5 +9,5 @@ pub returns-clause-read : goal.returns-clause-read
 returns-clause-read c = λ ps.
     let xs = c.args.items in
     let ys = c.in_ok-more.more in
-    added (objects (map child_of xs) ∷ ps) ps (objects (map child_of xs ++ map child_of ys)) c.new.result (tokens_from c.args.bytes.now c.args.tokens.now) c.new.ensures.block c.new.ensures.begun c.new.ensures.end
+    added (objects (map child_of xs) ∷ ps) ps (objects (map child_of xs ++ map child_of ys)) c.new.result c.new.ensures.block c.new.ensures.begun
     (ap objects (appended_view child_of xs ys c.in_ok-appended.field-0 c.in_ok-appended.ensures)) (files.more_objects c.in_ok-more.ensures.read)

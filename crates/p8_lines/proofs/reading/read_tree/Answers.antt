@@ -5,10 +5,13 @@ use Rattle.p8_lines.proofs.Steps.{parses_within, tree_refused, is_refused}
 use Rattle.p8_lines.proofs.reading.read_tree.Goals as goal
 
 pub returns-in-Ok-clause-within : goal.returns-in-Ok-clause-within
-returns-in-Ok-clause-within c = parses_within (setting_of c.args.setting) greatest_height c.args.bytes.now c.args.tokens.now c.args.at c.in-Ok.read.1 (tree_of c.in-Ok.read.0) c.requires.within c.in-Ok.ensures.read
+returns-in-Ok-clause-within c =
+    let old = c.args.here.now in
+    parses_within (setting_of c.args.setting) greatest_height old.bytes old.tokens old.at c.read_expr.new.here.at (tree_of c.in-Ok.expr) c.requires.within c.in-Ok.ensures.read
 
 pub returns-in-Err-Refused-clause-stops : goal.returns-in-Err-Refused-clause-stops
 returns-in-Err-Refused-clause-stops c =
-    tree_refused (setting_of c.args.line) c.args.bytes.now c.args.tokens.now c.args.at c.args.state (setting_of c.args.setting) c.in-Err-Refused.fault
+    let old = c.args.here.now in
+    tree_refused (setting_of c.args.line) old.bytes old.tokens old.at c.args.state (setting_of c.args.setting) c.in-Err-Refused.fault
     c.requires.within c.requires.expects c.requires.fits c.requires.alone
-    (is_refused (IsFault (setting_of c.args.setting) greatest_height c.args.bytes.now c.args.tokens.now c.args.at) c.in-Err-Refused.field-0 c.in-Err-Refused.fault c.in-Err-Refused.field-0-is c.in-Err-Refused.ensures.refused)
+    (is_refused (IsFault (setting_of c.args.setting) greatest_height old.bytes old.tokens old.at) c.in-Err-Refused.field-0 c.in-Err-Refused.fault c.in-Err-Refused.field-0-is c.in-Err-Refused.ensures.refused)
