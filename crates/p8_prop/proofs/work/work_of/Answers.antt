@@ -1,4 +1,4 @@
-use Rattle.std.proofs.Common.{◌≡◌, ap, subst, sym, IfOk}
+use Rattle.std.proofs.Common.{subst, sym, IfOk}
 use Rattle.std.proofs.lemmas.Result.{IfOk-weaker}
 use Rattle.p8_finish.specs.declared.finish.Finish.TheVariants.{Trace, Saved, Serial, Wave, Plot}
 use Rattle.p8_inputs.specs.declared.program.Format.{Format}
@@ -7,16 +7,9 @@ use Rattle.p8_inputs.specs.Programs.{format_for, format_named}
 use Rattle.p8_commands.specs.Commands.{RunMemory, RunProgram, Save, Serial as ReadPin, Wave as ShowWave, Plot as DrawPins, ViewRun, PageRun}
 use Rattle.p8_commands.specs.declared.command.Command.{Command}
 use Rattle.p8_commands.specs.Seen.{command_read, dump_if_any, running}
-use Rattle.p8_inputs.specs.Asks.{run_asks}
-use Rattle.p8_inputs.specs.declared.stop.Stop.{Stop}
-use Rattle.std.specs.Prelude.{Result}
-use Rattle.p8_commands.specs.Naming.{name_of}
-use Rattle.p8_inputs.specs.Reads.{ReadsForAll}
-use Rattle.p8_inputs.specs.Seen.{ShelfSeen}
-use Rattle.p8_prop.specs.Texts.{asks_of, options_of, picture_of, selection_of}
+use Rattle.p8_prop.specs.Texts.{options_of, picture_of, selection_of}
 use Rattle.p8_prop.specs.Works.{IsRunWork, IsWork}
 use Rattle.p8_prop.proofs.Coming.{run-work, view-work, page-work}
-use Rattle.p8_inputs.proofs.Reading.{for-asks, nothing-asked}
 use Rattle.p8_prop.proofs.work.work_of.Goals as goal
 
 pub returns-in-Raw-clause-work : goal.returns-in-Raw-clause-work
@@ -99,71 +92,3 @@ pub returns-in_ok-work-in-Help-clause-work : goal.returns-in_ok-work-in-Help-cla
 returns-in_ok-work-in-Help-clause-work g c =
     let files = g.S.Shelf.files c.args.shelf.now in
     subst (λ (command : Command). IsWork files (command_read command) c.in_ok-work-in-Help.work) (sym c.in-Help.is) (c.in_ok-work-in-Help.ensures files)
-
--- what is read by an arm is what its command asks for
-read-by : {A : Type 0} {o : ShelfSeen} {r : Result A Stop} {command other : Command} → command ≡ other → ReadsForAll (asks_of (command_read other)) o r → ReadsForAll (asks_of (command_read command)) o r
-read-by same reads = for-asks (ap (λ (command : Command). asks_of (command_read command)) (sym same)) reads
-
-pub returns-in-Build-clause-reads : goal.returns-in-Build-clause-reads
-returns-in-Build-clause-reads g c = read-by c.in-Build.is c.image_work.ensures.reads
-
-pub returns-in-List-clause-reads : goal.returns-in-List-clause-reads
-returns-in-List-clause-reads g c = read-by c.in-List.is c.listing_work.ensures.reads
-
-pub returns-in-CodeSource-clause-reads : goal.returns-in-CodeSource-clause-reads
-returns-in-CodeSource-clause-reads g c = read-by c.in-CodeSource.is c.source_code_work.ensures.reads
-
-pub returns-in-CodeImage-clause-reads : goal.returns-in-CodeImage-clause-reads
-returns-in-CodeImage-clause-reads g c = read-by c.in-CodeImage.is c.image_code_work.ensures.reads
-
-pub returns-in-Map-clause-reads : goal.returns-in-Map-clause-reads
-returns-in-Map-clause-reads g c = read-by c.in-Map.is c.map_work.ensures.reads
-
-pub returns-in-Hint-clause-reads : goal.returns-in-Hint-clause-reads
-returns-in-Hint-clause-reads g c = read-by c.in-Hint.is c.hint_work.ensures.reads
-
-pub returns-in-ExplainFile-clause-reads : goal.returns-in-ExplainFile-clause-reads
-returns-in-ExplainFile-clause-reads g c = read-by c.in-ExplainFile.is c.accepted_work.ensures.reads
-
-pub returns-in-Raw-clause-reads : goal.returns-in-Raw-clause-reads
-returns-in-Raw-clause-reads g c = read-by c.in-Raw.is c.run_work.ensures.reads
-
-pub returns-in-Save-clause-reads : goal.returns-in-Save-clause-reads
-returns-in-Save-clause-reads g c = read-by c.in-Save.is c.chosen_work.ensures.reads
-
-pub returns-in-Check-clause-reads : goal.returns-in-Check-clause-reads
-returns-in-Check-clause-reads g c = read-by c.in-Check.is c.check_work.ensures.reads
-
-pub returns-in-Serial-clause-reads : goal.returns-in-Serial-clause-reads
-returns-in-Serial-clause-reads g c = read-by c.in-Serial.is c.chosen_work-in-Serial.ensures.reads
-
-pub returns-in-Wave-clause-reads : goal.returns-in-Wave-clause-reads
-returns-in-Wave-clause-reads g c = read-by c.in-Wave.is c.chosen_work-in-Wave.ensures.reads
-
-pub returns-in-Plot-clause-reads : goal.returns-in-Plot-clause-reads
-returns-in-Plot-clause-reads g c = read-by c.in-Plot.is c.chosen_work-in-Plot.ensures.reads
-
-pub returns-in-View-clause-reads : goal.returns-in-View-clause-reads
-returns-in-View-clause-reads g c = read-by c.in-View.is c.view_work.ensures.reads
-
-pub returns-in-Page-clause-reads : goal.returns-in-Page-clause-reads
-returns-in-Page-clause-reads g c = read-by c.in-Page.is c.page_work.ensures.reads
-
-pub returns-in-TypeFile-clause-reads : goal.returns-in-TypeFile-clause-reads
-returns-in-TypeFile-clause-reads g c = read-by c.in-TypeFile.is c.typed_work.ensures.reads
-
-pub returns-in-Convert-clause-reads : goal.returns-in-Convert-clause-reads
-returns-in-Convert-clause-reads g c = read-by c.in-Convert.is c.other_work.ensures.reads
-
-pub returns-in-Run-clause-reads : goal.returns-in-Run-clause-reads
-returns-in-Run-clause-reads g c =
-    read-by c.in-Run.is (for-asks (ap (λ (f : Format). run_asks f c.in-Run.run'.file.now (name_of c.in-Run.run'.script)) c.named-format.ensures) c.run_work-in-Run.ensures.reads)
-
-pub returns-in_ok-work-in-ExplainNumber-clause-reads : goal.returns-in_ok-work-in-ExplainNumber-clause-reads
-returns-in_ok-work-in-ExplainNumber-clause-reads g c = read-by c.in-ExplainNumber.is (nothing-asked _)
-
-pub returns-in_ok-work-in-Make-clause-reads : goal.returns-in_ok-work-in-Make-clause-reads
-returns-in_ok-work-in-Make-clause-reads g c = read-by c.in-Make.is (nothing-asked _)
-
-pub returns-in_ok-work-in-Help-clause-reads : goal.returns-in_ok-work-in-Help-clause-reads
-returns-in_ok-work-in-Help-clause-reads g c = read-by c.in-Help.is (nothing-asked _)
