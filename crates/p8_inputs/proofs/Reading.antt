@@ -16,7 +16,7 @@ use Rattle.p8_inputs.specs.Gathered.{StopsAtBuilding}
 use Rattle.p8_inputs.specs.Seen.{ShelfSeen, shelf_seen}
 use Rattle.p8_inputs.specs.Reads.{ReadsFor, ReadsForAll}
 use Rattle.p8_inputs.proofs.Building.{building-stops}
-use Rattle.p8_inputs.proofs.Logging.{none-read, none-read_of, some-more_read}
+use Rattle.p8_inputs.proofs.Logging.{none-read_of, some-more_read}
 use Rattle.p8_inputs.proofs.Stopping.{first-stops, first-or_memory, script-stops, behind, file-since}
 
 -- a fact that is so in any case
@@ -98,20 +98,6 @@ project-built {o = o} short top sources texts r gathered are stops read = record
 }
 
 -- ---- for asks
-
-pub nothing-asked : {A : Type 0} {files : Files} {log : Log} {count : ℕ} (x : A) → ReadsForAll [] (record { files = files; files_now = files; log = log; log_now = log; before = count; now = count }) (Ok x)
-nothing-asked x = record { kept = refl; later = omega arith; stopped = tt; all_read = refl; so_far = refl }
-
-pub unasked-all : {A : Type 0} {asks : List Ask} {files : Files} {log : Log} {count : ℕ} (r : Result A Stop) → IsErrAnd r (λ given. given ≡ NoMemory)
-    → ReadsForAll asks (record { files = files; files_now = files; log = log; log_now = log; before = count; now = count }) r
-unasked-all (Ok x) is = absurd is
-unasked-all {asks = asks} {files = files} {log = log} {count = count} (Err stop) is = record {
-  kept = refl;
-  later = omega arith;
-  stopped = subst (λ (s : Stop). Stops files count count asks s) (sym is) tt;
-  all_read = tt;
-  so_far = none-read files asks log;
-}
 
 -- one alone
 pub alone : {A : Type 0} {ask : Ask} {o : ShelfSeen} (r : Result A Stop) → ReadsFor ask o r → ReadsForAll (ask ∷ []) o r
