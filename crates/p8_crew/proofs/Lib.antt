@@ -1,4 +1,3 @@
 mod Places
 mod Endings
 mod Turning
-mod Counting
