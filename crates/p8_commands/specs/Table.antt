@@ -48,7 +48,7 @@ shown_run_clocks = operand (codes "CLOCKS") (codes "no turn is made at this cloc
 abbrev pub pins : Argument
 pins =
     valued (codes "pins") (codes "F")
-    (codes "a pin script, with a line CLOCK LEVELS for each change of the input pins: 1 to 10 digits, one space and 8 hexadecimal digits, bit p for pin p, as 9000 00000001, with clocks that rise; else all are low")
+    (codes "a pin script: a line CLOCK LEVELS for each change of the input pins, 1 to 10 digits, a space and 8 hexadecimal digits (9000 00000001; bit p is pin p), clocks rising; else all are low")
 
 abbrev pub turns : Argument
 turns = valued (codes "turns") (codes "K") (codes "the run ends after K turns too: 1 to 10 digits, at most 1000000; else 100000")

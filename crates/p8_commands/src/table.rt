@@ -107,7 +107,7 @@ const PINS: Argument = Argument {
     kind: ArgumentKind::Valued,
     name: "pins",
     value: "F",
-    about: "a pin script, with a line CLOCK LEVELS for each change of the input pins: 1 to 10 digits, one space and 8 hexadecimal digits, bit p for pin p, as 9000 00000001, with clocks that rise; else all are low",
+    about: "a pin script: a line CLOCK LEVELS for each change of the input pins, 1 to 10 digits, a space and 8 hexadecimal digits (9000 00000001; bit p is pin p), clocks rising; else all are low",
 };
 
 const TURNS: Argument = Argument {

@@ -31,7 +31,8 @@ impl Model for Desk {
 
     ghost view = { λ d. record { world = world_in d.start; table = d.table.shared.table_id } };
 
-    ghost invariant = { λ d. (d.table.shared.key ≡ d.start) × (d.table.shared.table_id.words ≡ 72) × (d.table.shared.table_id.slots ≡ 1) × (d.start.limits.clocks ≤ 4000000000) × (d.start.limits.turns ≤ 1000000) };
+    ghost invariant = { λ d. (d.table.shared.key ≡ d.start) × (d.table.shared.table_id.words ≡ 72) × (d.table.shared.table_id.slots ≡ 1) ×
+        (d.start.limits.clocks ≤ 4000000000) × (d.start.limits.turns ≤ 1000000) };
 }
 
 impl Desk {

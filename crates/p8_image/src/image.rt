@@ -108,7 +108,8 @@ impl Model for Image {
 
     ghost view = { λ image. record { file = image.bytes.items; memory = memory_in image.bytes.items image.memory } };
 
-    ghost invariant = { λ image. IsImage image.bytes.items × (length (memory_in image.bytes.items image.memory) ≡ 32768) × (header_of (memory_in image.bytes.items image.memory) ≡ header_of image.bytes.items) };
+    ghost invariant = { λ image. IsImage image.bytes.items × (length (memory_in image.bytes.items image.memory) ≡ 32768) ×
+        (header_of (memory_in image.bytes.items image.memory) ≡ header_of image.bytes.items) };
 }
 
 /// The image that a `.binary` file holds.
