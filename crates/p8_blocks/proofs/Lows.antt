@@ -71,8 +71,8 @@ low_tree s n ts e x not_high = go (cases_lt n (height e))
 -- each state can be ended
 
 -- a name alone isn't high
-named_low : (s : Setting) (n : ℕ) (p : Place) (x : Lexeme) (b : Bool) (m : List ℕ) → walk (start s) (token p x ∷ []) ≡ Some (machine.state s (named reading b p m) []) → 0 < n → ¬ heights.IsTooHigh s n (token p x ∷ [])
-named_low s n p x b m h lt = not_too_high s n (token p x ∷ []) (machine.state s (named reading b p m) []) h (omega (arith, lt))
+named_low : (s : Setting) (n : ℕ) (p : Place) (x : Lexeme) (b : Bool) (m : List ℕ) → walk (start s) (token p x ∷ []) ≡ Some (machine.state s (named b reading p m) []) → 0 < n → ¬ heights.IsTooHigh s n (token p x ∷ [])
+named_low s n p x b m h lt = not_too_high s n (token p x ∷ []) (machine.state s (named b reading p m) []) h (omega (arith, lt))
 
 name_low : (s : Setting) (n : ℕ) (p : Place) (x : Lexeme) → 0 < n → is_named x ≡ false → is_name_word x ≡ true → ¬ heights.IsTooHigh s n (token p x ∷ [])
 name_low in_method n p (name m) lt u h = named_low in_method n p (name m) true m refl lt

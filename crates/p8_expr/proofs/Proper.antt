@@ -20,7 +20,7 @@ use Rattle.p8_expr.specs.Sources.{IsOfLetters, IsFreeName, AreQuoted, IsLexeme, 
 -- symbols and reserved words
 
 -- the numbers in a word that is neither a number nor a name nor a string
-abbrev passes : Lexeme → Bool
+abbrev pub passes : Lexeme → Bool
 passes (number n) = false
 passes (name n) = false
 passes (string t) = false
@@ -39,7 +39,7 @@ passes (built_in k) = gives_value k
 passes (command k) = gives_no_value k
 passes _ = true
 
-words_pass : (w : Word) → passes (lexeme_of_word w) ≡ true
+pub words_pass : (w : Word) → passes (lexeme_of_word w) ≡ true
 unfolding lexeme_of_word
 words_pass word_case.PlusPlus = refl
 words_pass _ = refl

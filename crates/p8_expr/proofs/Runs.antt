@@ -1,6 +1,6 @@
 -- Reading an expression has one answer, and the answers of the code are it.
-use Rattle.std.proofs.Common.{◌≡◌, ◌∙◌, ℕ, suc, zero, ◌+◌, ◌-◌, ◌<◌, ◌≤◌, List, [], ◌∷◌, ◌++◌, length, take, drop, map, get_or, refl, sym, ap, subst, Option, Some, None, Bool, true, false, ◌⊎◌, inl, inr, append_assoc, take-add, arith}
-use Rattle.std.specs.Prelude.{◌↔◌, IsTrue, MatchOption, if◌then◌else◌, nat_lt, slice_get, option_and_then, option_map, unwrap_or}
+use Rattle.std.proofs.Common.{◌≡◌, ◌∙◌, ℕ, ◌+◌, ◌-◌, ◌<◌, ◌≤◌, List, [], ◌∷◌, ◌++◌, length, take, drop, map, get_or, refl, sym, ap, subst, Option, Some, None, Bool, true, false, arith}
+use Rattle.std.specs.Prelude.{◌↔◌, IsTrue, if◌then◌else◌, nat_lt, slice_get, option_and_then, option_map, unwrap_or}
 use Rattle.std.proofs.lemmas.List.{take_more, length-drop, length-map, get_or-drop}
 use Rattle.std.proofs.lemmas.Bool.{ltb-true, ltb-false}
 use Rattle.std.proofs.lemmas.Option.{slice_get_within, slice_get_past, slice_get_read, slice_get-map, get_or_from_slice_get}
@@ -9,25 +9,23 @@ use Rattle.p8_tree.specs.Views.{tree_of}
 use Rattle.p8_tree.specs.declared.expressions.Expr.{Expr}
 use Rattle.p8_lexer.specs.declared.token.Token as lexer_token
 use Rattle.p8_tree.specs.declared.refusal.Refusal.{Refusal}
-use Rattle.p8_tree.specs.declared.refusal.Refusal.TheVariants.{TooNested}
+use Rattle.p8_tree.specs.declared.refusal.Refusal.TheVariants.{TooNested, Unexpected}
 use Rattle.p8_tree.specs.Refusals.{refusal_number}
 use Rattle.p8_lexer.specs.declared.word.Word.TheVariants as word
 use Rattle.p8_lexer.specs.Words.{word_of}
 use Rattle.p8_grammar.specs.Lexemes.{Setting, Token}
-use Rattle.p8_grammar.specs.Grammar.{IsExpression, IsFront, IsLongestFront}
+use Rattle.p8_grammar.specs.Grammar.{IsExpression, IsLongestFront}
 use Rattle.p8_grammar.specs.Heights.{height, IsTooHigh}
-use Rattle.p8_grammar.specs.Reading.{HasTaken}
-use Rattle.p8_grammar.specs.declared.reader.Reader.{Reader}
-use Rattle.p8_grammar.specs.Machine.{State, walk, start}
-use Rattle.p8_grammar.proofs.Live.{one_tree, is_front, dead}
-use Rattle.p8_grammar.proofs.Readings.{one_longest, taken_front, shows}
+use Rattle.p8_grammar.proofs.Live.{one_tree}
+use Rattle.p8_grammar.proofs.Readings.{one_longest, shows, means}
 use Rattle.p8_tree.specs.declared.faults.Fault.{Fault}
 use Rattle.p8_tree.proofs.Failing.{same_fault}
 use Rattle.p8_expr.specs.Words.{token_of}
 use Rattle.p8_expr.specs.Refusals.{refusal_of}
-use Rattle.p8_expr.specs.Parsing.{Outcome, tree, refused, Ends, whole, too_high, unfit, broken_off, Parses, IsFault, IsFaultAt, refusal_at, tokens_from}
-use Rattle.p8_expr.specs.Cursors.{Spot, word_there, end_place, place_there}
-use Rattle.p8_expr.specs.Reading.{HasRead}
+use Rattle.p8_expr.specs.Parsing.{Outcome, tree, refused, Ends, whole, too_high, unfit, broken_off, Parses, IsFault, refusal_at, tokens_from}
+use Rattle.p8_expr.specs.Cursors.{Spot, word_there}
+use Rattle.p8_expr.specs.declared.reading.Ended.TheVariants as ended
+use Rattle.p8_expr.specs.Reading.{Read, IsEnded}
 
 -- one answer
 
@@ -78,51 +76,32 @@ next_token bytes tokens at n t h =
     let mapped : get_or (map f ys) n (f t) ≡ f t = get_or_from_slice_get (map f ys) n (f t) (f t) (slice_get-map f ys n ∙ ap (option_map f) in_ys) in
     take_more (map f ys) n (f t) (omega (arith, lt, length-drop at tokens, length-map ys f)) ∙ ap (λ u. take n (map f ys) ++ u ∷ []) mapped
 
--- each run that begins an expression is part of a longest one
-is_decided : (s : Setting) (ts : List Token) → IsFront s ts ⊎ (IsFront s ts → ⊥)
-is_decided s ts = go (walk (start s) ts) refl
-  where
-    go : (o : Option State) → walk (start s) ts ≡ o → IsFront s ts ⊎ (IsFront s ts → ⊥)
-    go None h = inr (dead s ts h)
-    go (Some st) h = inl (is_front s ts st h)
-
-pub record Longest (s : Setting) (ts : List Token) (k : ℕ) : Type 0 where
-  pub run : ℕ
-  pub above : k ≤ run
-  pub is : IsLongestFront s ts run
-
-pub longest_from : (s : Setting) (ts : List Token) (left k : ℕ) → k + left ≡ length ts → IsFront s (take k ts) → Longest s ts k
-longest_from s ts zero k e f = record { run = k; above = omega arith; is = record { within = omega (arith, e); front = f; stops = λ lt. absurd (omega (arith, e, lt)) } }
-longest_from s ts (suc left) k e f = go (λ g. longest_from s ts left (k + 1) (omega (arith, e)) g) (is_decided s (take (k + 1) ts))
-  where
-    go : (IsFront s (take (k + 1) ts) → Longest s ts (k + 1)) → IsFront s (take (k + 1) ts) ⊎ (IsFront s (take (k + 1) ts) → ⊥) → Longest s ts k
-    go ih (inl g) = let x = ih g in record { run = x.run; above = omega (arith, x.above); is = x.is }
-    go ih (inr not_front) = record { run = k; above = omega arith; is = record { within = omega (arith, e); front = f; stops = λ lt. not_front } }
-
--- what is too high stays so
-pub stays_high : (s : Setting) (limit : ℕ) (ts : List Token) (k n : ℕ) → k ≤ n → IsTooHigh s limit (take k ts) → IsTooHigh s limit (take n ts)
-stays_high s limit ts k n le high = λ rest e r.
-    high (take (n - k) (drop k ts) ++ rest) e (subst (IsExpression s e) (ap (λ us. us ++ rest) split ∙ append_assoc (take k ts) (take (n - k) (drop k ts)) rest) r)
-  where
-    split : take n ts ≡ take k ts ++ take (n - k) (drop k ts)
-    split = ap (λ m. take m ts) (let m : n ≡ k + (n - k) = omega (arith, le) in m) ∙ take-add k (n - k) ts
-
--- answers of the code
-
-rest_length : (bytes : List ℕ) (tokens : List lexer_token.Token) (at : ℕ) → length (tokens_from bytes tokens at) ≡ length tokens - at
+pub rest_length : (bytes : List ℕ) (tokens : List lexer_token.Token) (at : ℕ) → length (tokens_from bytes tokens at) ≡ length tokens - at
 rest_length bytes tokens at = length-map (drop at tokens) (token_of bytes) ∙ length-drop at tokens
 
-pub high_ends : (s : Setting) (limit : ℕ) (bytes : List ℕ) (tokens : List lexer_token.Token) (at end : ℕ) (reader : Reader) → HasRead s limit bytes tokens at reader end → IsTooHigh s limit (take (end - at) (tokens_from bytes tokens at)) → Parses s limit bytes tokens at (refused TooNested at)
-high_ends s limit bytes tokens at end reader h high =
-    let ts = tokens_from bytes tokens at in
-    let n : (end - at) + (length ts - (end - at)) ≡ length ts = omega (arith, h.ordered, h.within, rest_length bytes tokens at) in
-    let x = longest_from s ts (length ts - (end - at)) (end - at) n (taken_front s (take (end - at) ts) reader h.taken) in
-    (x.run, x.is, too_high (stays_high s limit ts (end - at) x.run x.above high))
+left_is : (bytes : List ℕ) (tokens : List lexer_token.Token) (at end : ℕ) → at ≤ end → end ≤ length tokens → length (tokens_from bytes tokens at) - length (tokens_from bytes tokens end) ≡ end - at
+left_is bytes tokens at end o w = omega (arith, o, w, rest_length bytes tokens at, rest_length bytes tokens end)
 
-pub ends_so : (s : Setting) (limit : ℕ) (bytes : List ℕ) (tokens : List lexer_token.Token) (at end : ℕ) (reader : Reader) (o : Outcome) → HasRead s limit bytes tokens at reader end → ¬ IsTooHigh s limit (take (end - at) (tokens_from bytes tokens at)) → Ends s limit bytes tokens at end (take (end - at) (tokens_from bytes tokens at)) o → Parses s limit bytes tokens at o
-ends_so s limit bytes tokens at end reader o h refuted x =
-    let n : end ≡ at + (end - at) = omega (arith, h.ordered) in
-    (end - at, h.longest refuted, subst (λ i. Ends s limit bytes tokens at i (take (end - at) (tokens_from bytes tokens at)) o) n x)
+-- what comes of reading, as an answer
+pub ends_so : (s : Setting) (limit : ℕ) (bytes : List ℕ) (tokens : List lexer_token.Token) (at end l : ℕ) (o : Option Tree) (out : Outcome) → (r : Read s bytes tokens at o l end) → Ends s limit bytes tokens at end (take (end - at) (tokens_from bytes tokens at)) out → Parses s limit bytes tokens at out
+ends_so s limit bytes tokens at end l o out r x =
+    let ts = tokens_from bytes tokens at in
+    let m = means s ts o l (tokens_from bytes tokens end) r.comes in
+    let n = left_is bytes tokens at end r.ordered r.within in
+    let e : end ≡ at + (end - at) = omega (arith, r.ordered) in
+    (end - at, subst (IsLongestFront s ts) n m.longest, subst (λ i. Ends s limit bytes tokens at i (take (end - at) ts) out) e x)
+
+-- whether every expression that begins so is too high
+pub high_is : (s : Setting) (bytes : List ℕ) (tokens : List lexer_token.Token) (at end l : ℕ) (o : Option Tree) → (r : Read s bytes tokens at o l end) → (h : ℕ) → IsTooHigh s h (take (end - at) (tokens_from bytes tokens at)) ↔ (h < l)
+high_is s bytes tokens at end l o r h =
+    let ts = tokens_from bytes tokens at in
+    subst (λ i. IsTooHigh s h (take i ts) ↔ (h < l)) (left_is bytes tokens at end r.ordered r.within) ((means s ts o l (tokens_from bytes tokens end) r.comes).high h)
+
+-- the tree, where there is one
+pub tree_is : (s : Setting) (bytes : List ℕ) (tokens : List lexer_token.Token) (at end l : ℕ) (o : Option Tree) → (r : Read s bytes tokens at o l end) → (e : Tree) → (o ≡ Some e) ↔ IsExpression s e (take (end - at) (tokens_from bytes tokens at))
+tree_is s bytes tokens at end l o r e =
+    let ts = tokens_from bytes tokens at in
+    subst (λ i. (o ≡ Some e) ↔ IsExpression s e (take i ts)) (left_is bytes tokens at end r.ordered r.within) ((means s ts o l (tokens_from bytes tokens end) r.comes).tree e)
 
 -- an expression that isn't too high is low enough
 pub low_enough : (s : Setting) (limit : ℕ) (ts : List Token) (e : Tree) → IsExpression s e ts → ¬ IsTooHigh s limit ts → height e ≤ limit
@@ -132,57 +111,6 @@ low_enough s limit ts e r refuted = go (nat_lt limit (height e)) refl
     go true h = absurd (refuted ((shows s limit ts e r).1 (ltb-true _ _ h)))
     go false h = ltb-false _ _ h
 
--- what the longest run is, where the reader stopped
-pub run_ends : (s : Setting) (limit : ℕ) (bytes : List ℕ) (tokens : List lexer_token.Token) (at end : ℕ) (reader : Reader) → at ≤ end → length tokens ≤ end → HasTaken s (take (end - at) (tokens_from bytes tokens at)) reader → end ≤ length tokens → HasRead s limit bytes tokens at reader end
-run_ends s limit bytes tokens at end reader o e h w = record {
-  ordered = o;
-  within = w;
-  taken = h;
-  longest = λ _. record { within = omega (arith, rest_length bytes tokens at, o, w); front = taken_front s _ reader h; stops = λ lt. absurd (omega (arith, lt, rest_length bytes tokens at, o, e)) };
-}
-
-pub run_stops : (s : Setting) (limit : ℕ) (bytes : List ℕ) (tokens : List lexer_token.Token) (at end : ℕ) (reader : Reader) (t : lexer_token.Token) → at ≤ end → slice_get tokens end ≡ Some t → HasTaken s (take (end - at) (tokens_from bytes tokens at)) reader → ¬ IsFront s (take (end - at) (tokens_from bytes tokens at) ++ token_of bytes t ∷ []) → HasRead s limit bytes tokens at reader end
-run_stops s limit bytes tokens at end reader t o get h refuted =
-    let w : end < length tokens = slice_get_within tokens end t get in
-    let n : at + (end - at) ≡ end = omega (arith, o) in
-    record {
-      ordered = o;
-      within = omega (arith, w);
-      taken = h;
-      longest = λ _. record {
-        within = omega (arith, rest_length bytes tokens at, o, w);
-        front = taken_front s _ reader h;
-        stops = λ lt f. refuted (subst (IsFront s) (next_token bytes tokens at (end - at) t (ap (slice_get tokens) n ∙ get)) f);
-      };
-    }
-
-pub run_high : (s : Setting) (limit : ℕ) (bytes : List ℕ) (tokens : List lexer_token.Token) (at end : ℕ) (reader : Reader) → at ≤ end → end ≤ length tokens → HasTaken s (take (end - at) (tokens_from bytes tokens at)) reader → IsTooHigh s limit (take (end - at) (tokens_from bytes tokens at)) → HasRead s limit bytes tokens at reader end
-run_high s limit bytes tokens at end reader o w h high = record { ordered = o; within = w; taken = h; longest = λ refuted. absurd (refuted high) }
-
--- one more token
-pub run_goes_on : (s : Setting) (bytes : List ℕ) (tokens : List lexer_token.Token) (at end : ℕ) (reader : Reader) (t : lexer_token.Token) → at ≤ end → slice_get tokens end ≡ Some t → HasTaken s (take (end - at) (tokens_from bytes tokens at) ++ token_of bytes t ∷ []) reader → HasTaken s (take (end + 1 - at) (tokens_from bytes tokens at)) reader
-run_goes_on s bytes tokens at end reader t o get h =
-    let n : at + (end - at) ≡ end = omega (arith, o) in
-    let m : (end - at) + 1 ≡ end + 1 - at = omega (arith, o) in
-    subst (λ k. HasTaken s (take k (tokens_from bytes tokens at)) reader) m (subst (λ us. HasTaken s us reader) (sym (next_token bytes tokens at (end - at) t (ap (slice_get tokens) n ∙ get))) h)
-
--- what tests say
-
-pub refuted : (b : Bool) (F : Type 0) → b ≡ false → (IsTrue b ↔ F) → F → ⊥
-refuted b F e h f = let x : false ≡ true = sym e ∙ h.1 f in cc
-
-pub granted : (b : Bool) (F : Type 0) → b ≡ true → (IsTrue b ↔ F) → F
-granted b F e h = h.0 e
-
-pub not_taken : (s : Setting) (ts us : List Token) (reader : Reader) (b : Bool) → b ≡ false → HasTaken s (if b then us else ts) reader → HasTaken s ts reader
-not_taken s ts us reader b e h = subst (λ x. HasTaken s (if x then us else ts) reader) e h
-
-pub is_taken : (s : Setting) (ts us : List Token) (reader : Reader) (b : Bool) → b ≡ true → HasTaken s (if b then us else ts) reader → HasTaken s us reader
-is_taken s ts us reader b e h = subst (λ x. HasTaken s (if x then us else ts) reader) e h
-
-pub first_taken : (s : Setting) (bytes : List ℕ) (tokens : List lexer_token.Token) (at : ℕ) (reader : Reader) → HasTaken s [] reader → HasTaken s (take (at - at) (tokens_from bytes tokens at)) reader
-first_taken s bytes tokens at reader h = let n : 0 ≡ at - at = omega arith in subst (λ k. HasTaken s (take k (tokens_from bytes tokens at)) reader) n h
-
 pub refusal_within : (s : Setting) (bytes : List ℕ) (tokens : List lexer_token.Token) (i : ℕ) (r : Refusal) → refusal_at s bytes tokens i ≡ Some r → i < length tokens
 unfolding refusal_at
 refusal_within s bytes tokens i r h = go (nat_lt i (length tokens)) refl
@@ -191,46 +119,43 @@ refusal_within s bytes tokens i r h = go (nat_lt i (length tokens)) refl
     go true e = ltb-true _ _ e
     go false e = let past = ap (option_and_then (λ t. refusal_of s (word_of bytes t))) (slice_get_past tokens i (ltb-false _ _ e)) in absurd cc
 
-pub has_tree : (s : Setting) (ts : List Token) (o : Option Expr) (x : Expr) → o ≡ Some x → MatchOption o ((e : Tree) → ¬ IsExpression s e ts) (λ x. IsExpression s (tree_of x) ts) → IsExpression s (tree_of x) ts
-has_tree s ts o x e h = subst (λ o. MatchOption o ((e : Tree) → ¬ IsExpression s e ts) (λ x. IsExpression s (tree_of x) ts)) e h
+-- a test that failed
+pub refuted : (b : Bool) (F : Type 0) → b ≡ false → (IsTrue b ↔ F) → F → ⊥
+refuted b F e h f = let x : false ≡ true = sym e ∙ h.1 f in cc
 
-pub has_none : (s : Setting) (ts : List Token) (o : Option Expr) → o ≡ None → MatchOption o ((e : Tree) → ¬ IsExpression s e ts) (λ x. IsExpression s (tree_of x) ts) → (e : Tree) → ¬ IsExpression s e ts
-has_none s ts o e h = subst (λ o. MatchOption o ((e : Tree) → ¬ IsExpression s e ts) (λ x. IsExpression s (tree_of x) ts)) e h
+pub granted : (b : Bool) (F : Type 0) → b ≡ true → (IsTrue b ↔ F) → F
+granted b F e h = h.0 e
 
--- refusals at a spot
+-- the answers
 
-some_place : (s : Spot) (t : lexer_token.Token) → slice_get s.tokens s.at ≡ Some t → place_there s ≡ t.place
-some_place s t h = ap (λ (o : Option lexer_token.Token). unwrap_or (option_map (λ t. t.place) o) (end_place s.tokens)) h
+-- what was read is low enough
+low_read : (s : Setting) (limit : ℕ) (bytes : List ℕ) (tokens : List lexer_token.Token) (at end l : ℕ) (o : Option Tree) → (r : Read s bytes tokens at o l end) → l ≤ limit → ¬ IsTooHigh s limit (take (end - at) (tokens_from bytes tokens at))
+low_read s limit bytes tokens at end l o r le t = let lt = (high_is s bytes tokens at end l o r limit).0 t in omega (arith, lt, le)
 
-last_place : (s : Spot) (t : lexer_token.Token) → length s.tokens ≤ s.at → slice_get s.tokens (length s.tokens - 1) ≡ Some t → place_there s ≡ t.place
-last_place s t le h =
-    ap (λ (o : Option lexer_token.Token). unwrap_or (option_map (λ t. t.place) o) (end_place s.tokens)) (slice_get_past s.tokens s.at le) ∙
-    ap (λ (o : Option lexer_token.Token). unwrap_or (option_map (λ t. t.place) o) (record { line = 1; column = 1 })) h
+pub whole_read : (s : Setting) (limit : ℕ) (bytes : List ℕ) (tokens : List lexer_token.Token) (at end : ℕ) (e : Expr) → IsEnded s limit bytes tokens at (ended.Whole e end) → refusal_at s bytes tokens end ≡ None → Parses s limit bytes tokens at (tree (tree_of e) end)
+whole_read s limit bytes tokens at end e (n, le, r) none =
+    let ts = take (end - at) (tokens_from bytes tokens at) in
+    let is : IsExpression s (tree_of e) ts = (tree_is s bytes tokens at end n (Some (tree_of e)) r (tree_of e)).0 refl in
+    let low = low_read s limit bytes tokens at end n (Some (tree_of e)) r le in
+    ends_so s limit bytes tokens at end n (Some (tree_of e)) (tree (tree_of e) end) r (whole is (low_enough s limit ts (tree_of e) is low) none)
 
--- where there is no token
-pub none_within : {A : Type 0} (xs : List A) (at : ℕ) → slice_get xs at ≡ None → length xs ≤ at
-none_within [] at h = omega arith
-none_within (x ∷ xs) zero h = absurd cc
-none_within (x ∷ xs) (suc at) h = let n = none_within xs at h in omega (arith, n)
+pub unfit_read : (s : Setting) (limit : ℕ) (bytes : List ℕ) (tokens : List lexer_token.Token) (at end l : ℕ) (o : Option Tree) (q : Refusal) → (r : Read s bytes tokens at o l end) → l ≤ limit → refusal_at s bytes tokens end ≡ Some q → Parses s limit bytes tokens at (refused q end)
+unfit_read s limit bytes tokens at end l o q r le some = ends_so s limit bytes tokens at end l o (refused q end) r (unfit (low_read s limit bytes tokens at end l o r le) some)
 
-pub fault_there : (r : Refusal) (s : Spot) (f : Fault) → s.at < length s.tokens → f.number ≡ refusal_number r → f.place ≡ place_there s → IsFaultAt r s.tokens s.at f
-fault_there r s f lt n p = go (slice_get s.tokens s.at) refl
-  where
-    go : (o : Option lexer_token.Token) → slice_get s.tokens s.at ≡ o → IsFaultAt r s.tokens s.at f
-    go None h = let le = none_within s.tokens s.at h in absurd (omega (arith, lt, le))
-    go (Some t) h = (t, h, n, p ∙ some_place s t h)
+pub high_read : (s : Setting) (limit : ℕ) (bytes : List ℕ) (tokens : List lexer_token.Token) (at end l : ℕ) (o : Option Tree) → (r : Read s bytes tokens at o l end) → limit < l → Parses s limit bytes tokens at (refused TooNested at)
+high_read s limit bytes tokens at end l o r lt = ends_so s limit bytes tokens at end l o (refused TooNested at) r (too_high ((high_is s bytes tokens at end l o r limit).1 lt))
 
--- at the token of the spot, or at the last one
-pub fault_next : (r : Refusal) (s : Spot) (f : Fault) → 0 < length s.tokens → s.at ≤ length s.tokens → f.number ≡ refusal_number r → f.place ≡ place_there s → IsFaultAt r s.tokens (if nat_lt s.at (length s.tokens) then s.at else s.at - 1) f
-fault_next r s f some le n p = go (nat_lt s.at (length s.tokens)) refl
-  where
-    last : (i : ℕ) (o : Option lexer_token.Token) → i ≡ length s.tokens - 1 → length s.tokens ≤ s.at → slice_get s.tokens i ≡ o → IsFaultAt r s.tokens i f
-    last i None e ge h = let w = none_within s.tokens i h in absurd (omega (arith, some, e, w))
-    last i (Some t) e ge h = (t, h, n, p ∙ last_place s t ge (ap (slice_get s.tokens) (sym e) ∙ h))
+-- the reader may stop before the end of the run where that is too high
+pub stopped_high : (s : Setting) (limit : ℕ) (bytes : List ℕ) (tokens : List lexer_token.Token) (at : ℕ) → at ≤ length tokens → IsEnded s limit bytes tokens at ended.TooHigh → Parses s limit bytes tokens at (refused TooNested at)
+stopped_high s limit bytes tokens at within (o, n, us, lt, e) =
+    let ts = tokens_from bytes tokens at in
+    let m = means s ts o n us e in
+    (length ts - length us, m.longest, too_high ((m.high limit).1 lt))
 
-    go : (b : Bool) → nat_lt s.at (length s.tokens) ≡ b → IsFaultAt r s.tokens (if b then s.at else s.at - 1) f
-    go true h = fault_there r s f (ltb-true _ _ h) n p
-    go false h = let ge : length s.tokens ≤ s.at = ltb-false _ _ h in last (s.at - 1) (slice_get s.tokens (s.at - 1)) (omega (arith, ge, le)) ge refl
+pub broken_read : (s : Setting) (limit : ℕ) (bytes : List ℕ) (tokens : List lexer_token.Token) (at end l : ℕ) → (r : Read s bytes tokens at None l end) → l ≤ limit → refusal_at s bytes tokens end ≡ None → Parses s limit bytes tokens at (refused Unexpected (if nat_lt end (length tokens) then end else end - 1))
+broken_read s limit bytes tokens at end l r le none =
+    ends_so s limit bytes tokens at end l None (refused Unexpected (if nat_lt end (length tokens) then end else end - 1)) r
+    (broken_off (low_read s limit bytes tokens at end l None r le) none (λ e is. let no = (tree_is s bytes tokens at end l None r e).1 is in absurd cc))
 
 -- the refusal of what stands at a spot
 pub refusal_there : (k : Setting) (s : Spot) → refusal_of k (word_there s) ≡ refusal_at k s.bytes s.tokens s.at

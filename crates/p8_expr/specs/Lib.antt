@@ -5,4 +5,6 @@ pub mod Parsing
 pub mod Sources
 pub mod Cursors
 -- internal: the reader of the code.
+pub mod Lookaheads
+pub mod Views
 pub mod Reading

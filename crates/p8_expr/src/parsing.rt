@@ -1,26 +1,22 @@
 // Reading an expression from tokens.
-ghost use Rattle.std.specs.Prelude.{◌≡◌, ◌<◌, ◌≤◌, ◌++◌, ◌∷◌, [], ◌↔◌, ℕ, List, IfOk, IfErr, IsTrue, if◌then◌else◌, length};
+ghost use Rattle.std.specs.Prelude.{◌≡◌, ◌<◌, ◌≤◌, ℕ, List, IfOk, IfErr, length};
 ghost use Rattle.p8_lexer.specs.declared.token.Token as lexer_token;
 ghost use Rattle.p8_tree.specs.Views.{tree_of};
 ghost use Rattle.p8_grammar.specs.Lexemes as lexemes;
 ghost use Rattle.p8_grammar.specs.Lexemes.{in_method};
-ghost use Rattle.p8_grammar.specs.Grammar.{IsFront};
-ghost use Rattle.p8_grammar.specs.Reading.{HasTaken};
 ghost use Rattle.p8_grammar.specs.Views.{setting_of};
 ghost use Rattle.p8_tree.specs.declared.faults.Fault.{Fault};
 ghost use Rattle.p8_tree.specs.Faults.{IfRefused};
-ghost use Rattle.p8_expr.specs.Words.{token_of};
 ghost use Rattle.p8_expr.specs.Cursors.{moved};
 ghost use Rattle.p8_expr.specs.Parsing.{Outcome, tree, greatest_height, Parses, IsFault};
-ghost use Rattle.p8_expr.specs.Reading.{HasRead};
 
+use crate::reading::{Ended, read};
 use crate::refusals::refusal_of;
 use crate::token_cursor::TokenCursor;
-use crate::words::lexeme;
-use p8_grammar::{Reader, Setting};
-use p8_lexer::{Token, Tokens};
+use p8_grammar::Setting;
+use p8_lexer::Tokens;
 use p8_tree::{Expr, Fault, Refusal};
-use p8_words::{Fail, NoMemory};
+use p8_words::Fail;
 use std::alloc::Global;
 
 /// How high an expression may be: one without another inside it has height 1, and parentheses add
@@ -86,66 +82,27 @@ pub fn read_expr(
     ensures refused { IfErr result (IfRefused (IsFault (setting_of setting) height here.old.bytes here.old.tokens here.old.at)) }
 {
     let begin = here.place();
-    let reader = longest_run(alloc, here, setting, height)?;
-    if reader.is_higher_than(height) {
-        reader.discard();
-        return Err(Fail::Refused(Refusal::TooNested.at(begin)));
-    }
-    if let Some(refusal) = refusal_of(setting, here.word()) {
-        reader.discard();
-        return Err(Fail::Refused(refusal.at(here.place())));
-    }
-    match reader.finish(alloc)? {
-        Some(expr) => Ok(expr),
-        None => Err(Fail::Refused(Refusal::Unexpected.at(here.place()))),
-    }
-}
-
-// Takes the longest run of tokens that begins an expression, but stops where it is higher than this
-// height already, so that no tree grows much higher: gives the reader that took them.
-fn longest_run(
-    alloc: Global,
-    here: &mut TokenCursor,
-    setting: Setting,
-    height: u8,
-) -> Result<Reader, NoMemory>
-    requires within { here.old.at ≤ length here.old.tokens }
-    requires limit { height ≤ greatest_height }
-    ensures moved { IfOk result (λ _. here.new ≡ moved here.old here.new.at) }
-    ensures read { IfOk result (λ reader. HasRead (setting_of setting) height here.old.bytes here.old.tokens here.old.at reader here.new.at) }
-{
-    let bytes = here.bytes();
-    let mut reader = Reader::new(alloc, setting);
-    'run: while let Some(token) = here.token() {
-        if reader.is_higher_than(height) {
-            return Ok(reader);
-        }
-        let begins = match take(alloc, bytes, &token, &mut reader) {
-            Ok(begins) => begins,
-            Err(error) => {
-                reader.discard();
-                return Err(error);
+    match read(alloc, here.copied(), setting, height)? {
+        Ended::TooHigh => Err(Fail::Refused(Refusal::TooNested.at(begin))),
+        Ended::Whole(expr, end) => {
+            here.go_to(end);
+            match refusal_of(setting, here.word()) {
+                Some(refusal) => {
+                    drop(expr);
+                    Err(Fail::Refused(refusal.at(here.place())))
+                }
+                None => Ok(expr),
             }
-        };
-        if !begins {
-            return Ok(reader);
         }
-        here.advance();
+        Ended::Broken(end, least) => {
+            if least > height {
+                return Err(Fail::Refused(Refusal::TooNested.at(begin)));
+            }
+            here.go_to(end);
+            let refusal = refusal_of(setting, here.word()).unwrap_or(Refusal::Unexpected);
+            Err(Fail::Refused(refusal.at(here.place())))
+        }
     }
-    Ok(reader)
-}
-
-// Takes a token where what was taken and it begin an expression, and says whether they do.
-#[tactic(auto, unfolding(crate::specs::Words::token_of))]
-fn take(alloc: Global, bytes: &[u8], token: &Token, reader: &mut Reader) -> Result<bool, NoMemory>
-    ensures begins { (s : lexemes.Setting) (ts : List lexemes.Token) → HasTaken s ts reader.old →
-        IfOk result (λ b. IsTrue b ↔ IsFront s (ts ++ token_of bytes.now token.now ∷ [])) }
-    ensures taken { (s : lexemes.Setting) (ts : List lexemes.Token) → HasTaken s ts reader.old →
-        IfOk result (λ b. HasTaken s (if b then ts ++ token_of bytes.now token.now ∷ [] else ts) reader.new) }
-{
-    let lexeme = lexeme(alloc, bytes, token)?;
-    let begins = reader.take(alloc, token.place, lexeme)?;
-    Ok(begins)
 }
 
 /// Reading from a token on has one answer, in each setting and with each limit of heights: one tree

@@ -1,12 +1,21 @@
 // A place among the tokens of a file.
-ghost use Rattle.std.specs.Prelude.{◌≡◌, ◌+◌, ◌≤◌, ◌↔◌, IsTrue, length};
-ghost use Rattle.p8_expr.specs.Cursors.{moved, token_there, word_there, end_place, place_there};
+ghost use Rattle.std.specs.Prelude.{◌≡◌, ℕ, List, ◌∷◌, ◌+◌, ◌≤◌, ◌↔◌, IsTrue, IfOk, if◌then◌else◌, Some, None, length, map};
+ghost use Rattle.p8_lexer.specs.Words.{capital};
+ghost use Rattle.p8_grammar.specs.Lexemes.{name_in};
+ghost use Rattle.p8_grammar.specs.Machine.{loose};
+ghost use Rattle.p8_grammar.specs.Views.{lexeme_of};
+ghost use Rattle.p8_expr.specs.Words.{between_quotes};
+ghost use Rattle.p8_expr.specs.Cursors.{moved, token_there, word_there, end_place, place_there, text_there, lexeme_there};
+ghost use Rattle.p8_expr.specs.Views.{is_lettered};
 
-use p8_lexer::{Token, Tokens, Word, word_of};
-use p8_tree::Place;
+use crate::words::{between_quotes, capitals, lexeme};
+use p8_grammar::Lexeme;
+use p8_lexer::{Characters, Token, TokenKind, Tokens, Word, word_of};
+use p8_tree::{Place, Text};
+use std::alloc::{AllocError, Global};
 use std::marker::Model;
 
-/// Where a reader of lines stands in a file: before a token, at the text's end behind the last one, or past that.
+/// Where a reader stands in a file: before a token, at the text's end behind the last one, or past that.
 ///
 /// At the text's end stands what ends a line, at the place of the last token. Contracts see a cursor as a spot: the file's
 /// bytes, its tokens, and the number of the token.
@@ -104,6 +113,87 @@ impl<'a> TokenCursor<'a> {
         ensures { self.new ≡ moved self.old (self.old.at + 1) }
     {
         self.at = self.tokens.len().min(self.at) + 1;
+    }
+
+    /// Goes to the token of another number.
+    pub fn go_to(&mut self, at: usize)
+        ensures { self.new ≡ moved self.old at }
+    {
+        self.at = at;
+    }
+
+    /// What it is to an expression, but for its characters.
+    pub fn lexeme(&self) -> Lexeme
+        ensures { loose (lexeme_there self.now) ≡ lexeme_of (map capital (text_there self.now)) (between_quotes (text_there self.now)) result }
+    {
+        match self.token() {
+            Some(token) => lexeme(self.bytes, &token),
+            None => Lexeme::Other,
+        }
+    }
+
+    // Its characters.
+    fn text(&self) -> Characters<'a>
+        ensures { result ≡ text_there self.now }
+    {
+        match self.token() {
+            Some(token) => Characters::of_token(self.bytes, &token),
+            None => Characters::of_text(&[]),
+        }
+    }
+
+    /// How many characters it has between its quotes.
+    pub fn quoted_length(&self) -> usize
+        ensures { result ≡ length (between_quotes (text_there self.now)) }
+    {
+        self.text().len().saturating_sub(2)
+    }
+
+    /// Its characters in capitals.
+    pub fn name(&self, alloc: Global) -> Result<Text, AllocError>
+        ensures { IfOk result (λ t. t ≡ map capital (text_there self.now)) }
+    {
+        capitals(alloc, &self.text())
+    }
+
+    /// Its characters in capitals behind a colon: the name of a local label.
+    pub fn label(&self, alloc: Global) -> Result<Text, AllocError>
+        ensures { IfOk result (λ t. t ≡ 58 ∷ map capital (text_there self.now)) }
+    {
+        let mut bytes = self.name(alloc)?.into_vec();
+        bytes.insert(0, b':')?;
+        Ok(Text::from_vec(bytes))
+    }
+
+    /// Its characters between its quotes.
+    pub fn quoted(&self, alloc: Global) -> Result<Text, AllocError>
+        ensures { IfOk result (λ t. t ≡ between_quotes (text_there self.now)) }
+    {
+        between_quotes(alloc, &self.text())
+    }
+
+    /// Whether it is a name behind the colon of a local label: there any word of letters is one.
+    pub fn is_label(&self) -> bool
+        ensures { name_in (lexeme_there self.now) ≡ (if result then Some (map capital (text_there self.now)) else None) }
+    {
+        let meaning = self.lexeme();
+        match self.token() {
+            Some(token) => match token.kind {
+                TokenKind::Name => is_of_letters(meaning),
+                _ => matches!(meaning, Lexeme::Name),
+            },
+            None => false,
+        }
+    }
+}
+
+// Whether a word of letters may mean this.
+fn is_of_letters(lexeme: Lexeme) -> bool
+    ensures { (n t : List ℕ) → result ≡ is_lettered (lexeme_of n t lexeme) }
+{
+    match lexeme {
+        Lexeme::Mark(_) | Lexeme::Sign(_, _) | Lexeme::Assigns(_) | Lexeme::ObjectAddress => false,
+        _ => true,
     }
 }
 

@@ -2,12 +2,12 @@
 use Rattle.std.proofs.Common.{◌≡◌, List, [], ◌∷◌, ◌++◌, Option, Some, None, Bool, true, false, refl, sym, ap, ◌∙◌, subst, append_assoc}
 use Rattle.std.specs.Prelude.{option_and_then, if◌then◌else◌, ◌&&◌, IsTrue}
 use Rattle.p8_tree.specs.declared.places.Place.{Place}
-use Rattle.p8_tree.specs.Expressions.{Tree}
-use Rattle.p8_grammar.specs.Lexemes.{Setting, is_value, is_dat, colon, Lexeme, mark, other, reserved, plain, Token, token}
+use Rattle.p8_grammar.specs.Lexemes.{Setting, is_dat, colon, Lexeme, mark, other, reserved, plain, Token, token}
 use Rattle.p8_grammar.specs.Grammar.{word, Row, ◌▹◌, Spells, a_word, a_reserved_word}
-use Rattle.p8_grammar.specs.Machine.{is_coloned, reading, used, Shape, stays, fresh, grow, go_on, beyond, tree, target, Frame, infix_frame, State, state, joined, step, walk, start}
-use Rattle.p8_grammar.proofs.FormsStand.{ShapeStands, is_coloned as stands_coloned, inside_dat}
-use Rattle.p8_grammar.proofs.Steps.{other_none, reserved_other_none, no_join, unlabelled}
+use Rattle.p8_grammar.specs.Machine.{Shape, coloned, stays, Frame, State, state, becoming, step, walk, start}
+use Rattle.p8_grammar.proofs.Settings.{inside_dat}
+use Rattle.p8_grammar.proofs.FormsStand.{ShapeStands, is_coloned as stands_coloned}
+use Rattle.p8_grammar.proofs.Steps.{other_stops}
 use Rattle.p8_grammar.proofs.Sound.{Pending, nothing_pending, after_operator, in_hole, in_first, Begun, Stands, step_stands, start_stands}
 
 abbrev pub is_other : Lexeme → Bool
@@ -17,6 +17,10 @@ is_other x = false
 abbrev pub is_colon : Lexeme → Bool
 is_colon (mark colon) = true
 is_colon x = false
+
+abbrev is_coloned : Shape → Bool
+is_coloned (coloned u p) = true
+is_coloned sh = false
 
 -- each such word of these stands behind a colon, in DAT
 pub data Labelled (dat : Bool) : Bool → List Token → Type 0 where
@@ -34,29 +38,15 @@ last_of c (token q y ∷ ts) p x = last_of (is_colon (plain y)) ts p x
 
 -- no form takes it that isn't a colon
 pub other_step : (s : Setting) (sh : Shape) (k : List Frame) (p : Place) (x : Lexeme) → is_other (plain x) ≡ true → is_coloned sh ≡ false → step (state s sh k) (token p x) ≡ None
-other_step s sh k p other e h = go (tree sh)
-  where
-    go : (o : Option Tree) → beyond o s sh k p other ≡ None
-    go None = other_none s sh k p
-    go (Some y) = refl
-other_step s sh k p (reserved n other) e h = ap (λ o. go_on o s sh k p (reserved n other)) (unlabelled n sh None h) ∙ go (tree sh)
-  where
-    go : (o : Option Tree) → beyond o s sh k p (reserved n other) ≡ None
-    go None = reserved_other_none n s sh k p
-    go (Some y) = no_join s (target sh) p y k
+other_step s (coloned u q) k p x e h = absurd cc
+other_step s sh k p other e h = other_stops (state s sh k) p
+other_step s sh k p (reserved n other) e h = other_stops (state s sh k) p
 other_step s sh k p x e h = absurd cc
-
-joined_other : (s : Setting) (k : List Frame) (p : Place) (x : Lexeme) → is_other (plain x) ≡ true → (if is_value s then go_on (grow s fresh p x) s fresh k p x else None) ≡ None
-joined_other s k p x e = go (is_value s)
-  where
-    go : (b : Bool) → (if b then go_on (grow s fresh p x) s fresh k p x else None) ≡ None
-    go true = other_step s fresh k p x e refl
-    go false = refl
 
 -- the setting that is left is in DAT where the first one is
 pending_dat : {s0 s : Setting} {k : List Frame} {us : List Token} → Pending s0 s k us → is_dat s ≡ is_dat s0
 pending_dat nothing_pending = refl
-pending_dat (after_operator vs l p d same kept alike small low b w g) = sym alike ∙ pending_dat p
+pending_dat (after_operator vs l p d same kept alike small low b w m g) = sym alike ∙ pending_dat p
 pending_dat (in_hole {s = s} p h sp a) = inside_dat s ∙ pending_dat p
 pending_dat (in_first {s = s} p d sp a) = inside_dat s ∙ pending_dat p
 
@@ -75,16 +65,9 @@ behind_colon s0 s sh k ts b h = go b.stands b.spells h
     go (stands_coloned u d) sp h = both (is_dat s0) (last_is_colon false ts) (sym (pending_dat b.pending) ∙ d) (ap (last_is_colon false) b.is ∙ colon_spelled sp b.us)
     go st sp h = absurd cc
 
-joined_taken : (s0 s : Setting) (k : List Frame) (next : State) (ts : List Token) (p : Place) (x : Lexeme) → (if is_value s then go_on (grow s fresh p x) s fresh k p x else None) ≡ Some next → IsTrue (if is_other (plain x) then is_dat s0 && last_is_colon false ts else true)
-joined_taken s0 s k next ts p x h = go (is_other (plain x)) refl
-  where
-    go : (o : Bool) → is_other (plain x) ≡ o → IsTrue (if o then is_dat s0 && last_is_colon false ts else true)
-    go false e = refl
-    go true e = absurd (let z = sym h ∙ joined_other s k p x e in cc)
-
 taken : (s0 : Setting) (st next : State) (ts : List Token) (p : Place) (x : Lexeme) → Stands s0 st ts → step st (token p x) ≡ Some next → IsTrue (if is_other (plain x) then is_dat s0 && last_is_colon false ts else true)
-taken s0 (joined s r c q v k) next ts p (mark m) b h = refl
-taken s0 (joined s r c q v k) next ts p x b h = joined_taken s0 s (infix_frame r c q (used reading v) ∷ k) next ts p x h
+taken s0 (becoming s c q v k) next ts p (mark m) b h = refl
+taken s0 (becoming s c q v k) next ts p x b h = absurd cc
 taken s0 (state s sh k) next ts p x b h = go (is_other (plain x)) refl (is_coloned sh) refl
   where
     go : (o : Bool) → is_other (plain x) ≡ o → (c : Bool) → is_coloned sh ≡ c → IsTrue (if o then is_dat s0 && last_is_colon false ts else true)

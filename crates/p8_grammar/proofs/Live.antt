@@ -1,19 +1,20 @@
 -- What has been read can be ended to an expression of the least height.
-use Rattle.std.proofs.Common.{◌≡◌, ℕ, suc, ◌≤◌, max, List, [], ◌∷◌, ◌++◌, Some, None, true, false, refl, sym, ap, ◌∙◌, arith}
-use Rattle.std.specs.Prelude.{Option, option_and_then}
+use Rattle.std.proofs.Common.{◌≡◌, ℕ, suc, ◌+◌, ◌≤◌, List, [], ◌∷◌, ◌++◌, Option, Some, None, true, false, refl, sym, ap, ◌∙◌, arith}
+use Rattle.std.specs.Prelude.{option_and_then}
 use Rattle.p8_tree.specs.declared.places.Place.{Place}
-use Rattle.p8_tree.specs.Expressions.{Tree, node, Number, Str, Strings, Var, Change, Variable, no_index, ObjConst, Built, Look, Named, Part, Memory, Register, index, bits, single, range, no_trees, ◌▷◌, no_items, ◌▸◌}
-use Rattle.p8_grammar.specs.Lexemes.{Setting, in_method, in_declaration, in_dat, in_data_item, in_action, behind, memory, Mark, left_parenthesis, right_parenthesis, left_bracket, right_bracket, colon, dot, equal, Lexeme, number, name, string, mark, changes, size, Token, token, reserved}
-use Rattle.p8_grammar.specs.Grammar.{Row, with_characters, Head, calls, built, applied, Reads, IsFront}
-use Rattle.p8_grammar.specs.Heights.{height, height_of_trees, IsTooHigh}
-use Rattle.p8_grammar.specs.Machine.{reading, addressing, changing, Shape, memory_word, named, parted, indexed_name, ready, trapped_name, trapped_element, headed, done, Hole, first_item, Next, stays, opens, choice_of, tree, target, whole_in, close, fresh, Frame, wrap, assign_frame, inside_frame, reduce, State, state, joined, entered, entered_all, fill_hole, go_on, step, walk, all_of, accepted, accept, start}
-use Rattle.p8_grammar.specs.Least.{height_in_head, shape_least, filled, need, least}
-use Rattle.p8_grammar.proofs.Walks.{walk_append, goes_on, steps_on, wraps}
-use Rattle.p8_grammar.proofs.FormsStand.{ShapeStands, is_using, is_coloned, is_sized, is_plain, is_named, is_element, is_plain_dot, is_dotted, is_parted, is_memory, is_register, is_ready, is_trapping, is_trapped_name, is_trapped_element, is_object_dot, is_headed, is_hashed, is_string_begun, is_string_opened, is_string_read, is_strings_read, is_constant_begun, is_look_begun, is_choices_read, is_done, HoleStands, is_parenthesis, is_plain_index, is_name_index, is_part_index, is_memory_address, is_memory_index, is_first_bit, is_last_bit, is_trapped_index, is_argument, is_next_item, is_constant, is_look_for, is_choice, is_choice_to}
+use Rattle.p8_tree.specs.Expressions.{Tree, node, Str, Strings, Var, Change, ObjConst, Built, Look, Variable, Named, Part, Memory, Register, no_index, index, whole, bits, single, range, no_trees, ◌▷◌, no_items, ◌▸◌}
+use Rattle.p8_grammar.specs.Lexemes.{Setting, allows_index, inside, behind, memory, Mark, left_parenthesis, right_parenthesis, left_bracket, right_bracket, colon, dot, equal, Lexeme, number, name, string, mark, changes, size, reserved, token, Token}
+use Rattle.p8_grammar.specs.Grammar.{Row, calls, applied, with_characters, Reads, IsFront}
+use Rattle.p8_grammar.specs.Machine.{reading, Shape, using, sized, named, element, part, trapped_element, headed, becoming, done, Hole, memory_address, first_item, choice_of, Next, stays, opens, fresh, tree, target, whole_in, close, Frame, infix_frame, assign_frame, inside_frame, wrap, reduce, State, state, entered, entered_all, fill_hole, step, walk, all_of, accepted, accept, start, left_variable}
+use Rattle.p8_grammar.specs.Heights.{height, IsTooHigh}
+use Rattle.p8_grammar.specs.Least.{shape_least, filled, need, operand_least, least}
+use Rattle.p8_grammar.proofs.Walks.{walk_append, goes_on, steps_on, wraps, only, boolean_most}
+use Rattle.p8_grammar.proofs.FormsStand.{ShapeStands, is_using, is_coloned, is_sized, is_plain_dot, is_dotted, is_trapping, is_trapped_element, is_object_dot, is_hashed, is_string_begun, is_string_opened, is_string_read, is_strings_read, is_constant_begun, is_look_begun, is_choices_read, HoleStands, is_parenthesis, is_plain_index, is_name_index, is_part_index, is_memory_address, is_memory_index, is_first_bit, is_last_bit, is_trapped_index, is_argument, is_next_item, is_constant, is_look_for, is_choice, is_choice_to}
 use Rattle.p8_grammar.proofs.FormsRead.{changes_after, standing, done_whole, whole_tree}
-use Rattle.p8_grammar.proofs.Complete.{mark_step, complete}
-use Rattle.p8_grammar.proofs.Sound.{Pending, nothing_pending, after_operator, in_hole, in_first, Begun, Stands, walk_stands, start_stands, joint_assigns, sound}
-use Rattle.p8_grammar.proofs.Tall.{tree_least, target_least, need_le, need_wrap}
+use Rattle.p8_grammar.proofs.Steps.{mark_step, grown_step}
+use Rattle.p8_grammar.proofs.Complete.{complete}
+use Rattle.p8_grammar.proofs.Sound.{Pending, nothing_pending, after_operator, in_hole, in_first, Begun, Stands, becomes, walk_stands, start_stands, sound}
+use Rattle.p8_grammar.proofs.Tall.{tree_least, target_least, need_le, need_wrap, applied_least}
 
 somewhere : Place
 somewhere = record { line = 1; column = 1 }
@@ -71,7 +72,7 @@ lasting s sh e t = go (whole_in s sh) refl (target sh) refl
           endings = another a_change none;
           whole = done c;
           top = c;
-          walks = λ k. steps_on (state s sh k) (state s (done c) k) (token somewhere (changes 0x20 0x28)) [] (ap (λ o. go_on o s sh k somewhere (changes 0x20 0x28)) (changes_after s sh somewhere 0x20 0x28 v w));
+          walks = λ k. steps_on (state s sh k) (state s (done c) k) (token somewhere (changes 0x20 0x28)) [] (grown_step s sh k somewhere (changes 0x20 0x28) (stays (done c)) (changes_after s sh somewhere 0x20 0x28 v w));
           has = done_whole s c;
           low = omega (arith, target_least sh v w);
         }
@@ -90,44 +91,42 @@ already : (s : Setting) (sh : Shape) (e : Tree) → tree sh ≡ Some e → Compl
 already s sh e h = record { rest = []; endings = none; whole = sh; top = e; walks = λ k. refl; has = h; low = omega arith }
 
 completed : {s : Setting} {sh : Shape} {row : Row} → ShapeStands s sh row → Completed s sh
-completed (is_using {u = u} y) = record { rest = token somewhere (name letter) ∷ []; endings = another a_name none; whole = named u true somewhere letter; top = _; walks = λ k. refl; has = refl; low = omega arith }
-completed (is_coloned {u = u} {p = p} y d) = record { rest = token somewhere (name letter) ∷ []; endings = another a_name none; whole = named u false p (58 ∷ letter); top = _; walks = λ k. refl; has = refl; low = omega arith }
-completed {s = in_method} (is_sized {u = u} {p = p} {z = z} y i) = record { rest = token somewhere (mark left_bracket) ∷ token somewhere (number 0) ∷ token somewhere (mark right_bracket) ∷ []; endings = another (a_mark left_bracket) (another a_number (another (a_mark right_bracket) none)); whole = memory_word u p z (node somewhere (Number 0)); top = _; walks = λ k. refl; has = refl; low = omega arith }
-completed {s = in_declaration} (is_sized {u = u} {p = p} {z = z} y i) = record { rest = token somewhere (mark left_bracket) ∷ token somewhere (number 0) ∷ token somewhere (mark right_bracket) ∷ []; endings = another (a_mark left_bracket) (another a_number (another (a_mark right_bracket) none)); whole = memory_word u p z (node somewhere (Number 0)); top = _; walks = λ k. refl; has = refl; low = omega arith }
-completed {s = in_dat} (is_sized {u = u} {p = p} {z = z} y i) = record { rest = token somewhere (mark left_bracket) ∷ token somewhere (number 0) ∷ token somewhere (mark right_bracket) ∷ []; endings = another (a_mark left_bracket) (another a_number (another (a_mark right_bracket) none)); whole = memory_word u p z (node somewhere (Number 0)); top = _; walks = λ k. refl; has = refl; low = omega arith }
-completed {s = in_action} (is_sized {u = u} {p = p} {z = z} y i) = record { rest = token somewhere (mark left_bracket) ∷ token somewhere (number 0) ∷ token somewhere (mark right_bracket) ∷ []; endings = another (a_mark left_bracket) (another a_number (another (a_mark right_bracket) none)); whole = memory_word u p z (node somewhere (Number 0)); top = _; walks = λ k. refl; has = refl; low = omega arith }
-completed {s = in_data_item} (is_sized y i) = absurd cc
-completed {s = s} (is_plain y) = already s _ _ refl
-completed {s = s} (is_named y n) = already s _ _ refl
-completed {s = s} (is_element i) = already s _ _ refl
-completed (is_plain_dot {u = u} {p = p} {n = n} y) = record { rest = token somewhere (reserved byte_word (size 1)) ∷ []; endings = another a_size none; whole = parted u p n 1; top = _; walks = λ k. refl; has = refl; low = omega arith }
-completed (is_dotted {u = u} {p = p} {n = n} y x) = record { rest = token somewhere (reserved byte_word (size 1)) ∷ []; endings = another a_size none; whole = parted u p n 1; top = _; walks = λ k. refl; has = refl; low = omega arith }
-completed {s = s} (is_parted y n) = already s _ _ refl
-completed {s = s} (is_memory y i) = already s _ _ refl
-completed {s = s} (is_register y i t) = already s _ _ refl
-completed {s = s} (is_ready y t v) = already s _ _ refl
-completed is_trapping = record { rest = token somewhere (name letter) ∷ []; endings = another a_name none; whole = trapped_name somewhere letter; top = _; walks = λ k. refl; has = refl; low = omega arith }
-completed {s = s} is_trapped_name = already s _ _ refl
+completed (is_using {u = u} y) = record { rest = token somewhere (name letter) ∷ []; endings = another a_name none; whole = named true u somewhere letter; top = _; walks = λ k. refl; has = refl; low = omega arith }
+completed (is_coloned {u = u} {p = p} y d) = record { rest = token somewhere (name letter) ∷ []; endings = another a_name none; whole = named false u p (58 ∷ letter); top = _; walks = λ k. refl; has = refl; low = omega arith }
+completed {s = s} (is_sized {u = u} {p = p} {z = z} y i) =
+    record {
+      rest = token somewhere (mark left_bracket) ∷ token somewhere (name letter) ∷ token somewhere (mark right_bracket) ∷ [];
+      endings = another (a_mark left_bracket) (another a_name (another (a_mark right_bracket) none));
+      whole = part u (Memory z alone no_index p) memory;
+      top = _;
+      walks = λ k. steps_on (state s (sized u p z) k) (state (inside s) fresh (inside_frame s (memory_address u p z) ∷ k)) (token somewhere (mark left_bracket)) (token somewhere (name letter) ∷ token somewhere (mark right_bracket) ∷ []) (grown_step s (sized u p z) k somewhere (mark left_bracket) _ (only (allows_index s) _ i));
+      has = refl;
+      low = omega arith;
+    }
+completed (is_plain_dot {u = u} {p = p} {n = n} y) = record { rest = token somewhere (reserved byte_word (size 1)) ∷ []; endings = another a_size none; whole = part u (Part n 1 no_index p) memory; top = _; walks = λ k. refl; has = refl; low = omega arith }
+completed (is_dotted {u = u} {p = p} {n = n} y x) = record { rest = token somewhere (reserved byte_word (size 1)) ∷ []; endings = another a_size none; whole = part u (Part n 1 no_index p) memory; top = _; walks = λ k. refl; has = refl; low = omega arith }
+completed is_trapping = record { rest = token somewhere (name letter) ∷ []; endings = another a_name none; whole = headed (calls true None no_index letter somewhere somewhere); top = _; walks = λ k. refl; has = refl; low = omega arith }
 completed (is_trapped_element {p = p} {n = n} {e = e} i) = record { rest = token somewhere (mark dot) ∷ token somewhere (name letter) ∷ []; endings = another (a_mark dot) (another a_name none); whole = headed (calls true (Some n) (index e) letter somewhere p); top = _; walks = λ k. refl; has = refl; low = omega arith }
 completed (is_object_dot {t = t} {p = p} {n = n} {i = i} f) = record { rest = token somewhere (name letter) ∷ []; endings = another a_name none; whole = headed (calls t (Some n) i letter somewhere p); top = _; walks = λ k. refl; has = refl; low = omega arith }
-completed {s = s} (is_headed y) = already s _ _ refl
 completed (is_hashed {p = p} {n = n} d) = record { rest = token somewhere (name letter) ∷ []; endings = another a_name none; whole = done (node p (ObjConst n letter somewhere)); top = _; walks = λ k. refl; has = refl; low = omega arith }
-completed {s = in_method} (is_string_begun {p = p} d) = record { rest = token somewhere (mark left_parenthesis) ∷ token somewhere (string (65 ∷ [])) ∷ token somewhere (mark right_parenthesis) ∷ []; endings = another (a_mark left_parenthesis) (another a_string (another (a_mark right_parenthesis) none)); whole = done (node p (Str (65 ∷ []))); top = _; walks = λ k. refl; has = refl; low = omega arith }
-completed {s = in_declaration} (is_string_begun {p = p} d) = record { rest = token somewhere (mark left_parenthesis) ∷ token somewhere (string (65 ∷ [])) ∷ token somewhere (mark right_parenthesis) ∷ []; endings = another (a_mark left_parenthesis) (another a_string (another (a_mark right_parenthesis) none)); whole = done (node p (Str (65 ∷ []))); top = _; walks = λ k. refl; has = refl; low = omega arith }
-completed {s = in_dat} (is_string_begun {p = p} d) = record { rest = token somewhere (mark left_parenthesis) ∷ token somewhere (string (65 ∷ [])) ∷ token somewhere (mark right_parenthesis) ∷ []; endings = another (a_mark left_parenthesis) (another a_string (another (a_mark right_parenthesis) none)); whole = done (node p (Str (65 ∷ []))); top = _; walks = λ k. refl; has = refl; low = omega arith }
-completed {s = in_data_item} (is_string_begun {p = p} d) = record { rest = token somewhere (mark left_parenthesis) ∷ token somewhere (string (65 ∷ [])) ∷ token somewhere (mark right_parenthesis) ∷ []; endings = another (a_mark left_parenthesis) (another a_string (another (a_mark right_parenthesis) none)); whole = done (node p (Str (65 ∷ []))); top = _; walks = λ k. refl; has = refl; low = omega arith }
-completed {s = in_action} (is_string_begun d) = absurd cc
-completed {s = in_method} (is_string_opened {p = p} d) = record { rest = token somewhere (string (65 ∷ [])) ∷ token somewhere (mark right_parenthesis) ∷ []; endings = another a_string (another (a_mark right_parenthesis) none); whole = done (node p (Str (65 ∷ []))); top = _; walks = λ k. refl; has = refl; low = omega arith }
-completed {s = in_declaration} (is_string_opened {p = p} d) = record { rest = token somewhere (string (65 ∷ [])) ∷ token somewhere (mark right_parenthesis) ∷ []; endings = another a_string (another (a_mark right_parenthesis) none); whole = done (node p (Str (65 ∷ []))); top = _; walks = λ k. refl; has = refl; low = omega arith }
-completed {s = in_dat} (is_string_opened {p = p} d) = record { rest = token somewhere (string (65 ∷ [])) ∷ token somewhere (mark right_parenthesis) ∷ []; endings = another a_string (another (a_mark right_parenthesis) none); whole = done (node p (Str (65 ∷ []))); top = _; walks = λ k. refl; has = refl; low = omega arith }
-completed {s = in_data_item} (is_string_opened {p = p} d) = record { rest = token somewhere (string (65 ∷ [])) ∷ token somewhere (mark right_parenthesis) ∷ []; endings = another a_string (another (a_mark right_parenthesis) none); whole = done (node p (Str (65 ∷ []))); top = _; walks = λ k. refl; has = refl; low = omega arith }
-completed {s = in_action} (is_string_opened d) = absurd cc
+completed (is_string_begun {p = p} d) = record { rest = token somewhere (mark left_parenthesis) ∷ token somewhere (string letter) ∷ token somewhere (mark right_parenthesis) ∷ []; endings = another (a_mark left_parenthesis) (another a_string (another (a_mark right_parenthesis) none)); whole = done (node p (Str letter)); top = _; walks = λ k. refl; has = refl; low = omega arith }
+completed (is_string_opened {p = p} d) = record { rest = token somewhere (string letter) ∷ token somewhere (mark right_parenthesis) ∷ []; endings = another a_string (another (a_mark right_parenthesis) none); whole = done (node p (Str letter)); top = _; walks = λ k. refl; has = refl; low = omega arith }
 completed (is_string_read {p = p} {c = c} {t = t} d) = record { rest = token somewhere (mark right_parenthesis) ∷ []; endings = another (a_mark right_parenthesis) none; whole = done (node p (Str (c ∷ t))); top = _; walks = λ k. refl; has = refl; low = omega arith }
 completed (is_strings_read {p = p} {r = r} {c = c} {d = e} {t = t} {es = es} d a) = record { rest = token somewhere (mark right_parenthesis) ∷ []; endings = another (a_mark right_parenthesis) none; whole = done (node p (Strings (es ▷ node r (Str (c ∷ e ∷ t))))); top = _; walks = λ k. refl; has = refl; low = omega arith }
-completed (is_constant_begun {p = p} d) = record { rest = token somewhere (mark left_parenthesis) ∷ token somewhere (name letter) ∷ token somewhere (mark right_parenthesis) ∷ []; endings = another (a_mark left_parenthesis) (another a_name (another (a_mark right_parenthesis) none)); whole = done (node p (Built 0 (no_trees ▷ alone))); top = _; walks = λ k. refl; has = refl; low = omega arith }
-completed (is_look_begun {p = p} {k = c} d) = record { rest = token somewhere (mark left_parenthesis) ∷ token somewhere (name letter) ∷ token somewhere (mark colon) ∷ token somewhere (name letter) ∷ token somewhere (mark right_parenthesis) ∷ []; endings = another (a_mark left_parenthesis) (another a_name (another (a_mark colon) (another a_name (another (a_mark right_parenthesis) none)))); whole = done (node p (Look c (alone) (no_items ▸ single (alone)))); top = _; walks = λ k. refl; has = refl; low = omega arith }
+completed (is_constant_begun {p = p} d) =
+    record { rest = token somewhere (mark left_parenthesis) ∷ token somewhere (name letter) ∷ token somewhere (mark right_parenthesis) ∷ []; endings = another (a_mark left_parenthesis) (another a_name (another (a_mark right_parenthesis) none)); whole = done (node p (Built 0 (no_trees ▷ alone))); top = _; walks = λ k. refl; has = refl; low = omega arith }
+completed (is_look_begun {p = p} {k = c} d) =
+    record {
+      rest = token somewhere (mark left_parenthesis) ∷ token somewhere (name letter) ∷ token somewhere (mark colon) ∷ token somewhere (name letter) ∷ token somewhere (mark right_parenthesis) ∷ [];
+      endings = another (a_mark left_parenthesis) (another a_name (another (a_mark colon) (another a_name (another (a_mark right_parenthesis) none))));
+      whole = done (node p (Look c alone (no_items ▸ single alone)));
+      top = _;
+      walks = λ k. refl;
+      has = refl;
+      low = omega arith;
+    }
 completed (is_choices_read {p = p} {r = r} {k = j} {x = x} {c = c} {d = e} {t = t} {xs = xs} d a) = record { rest = token somewhere (mark right_parenthesis) ∷ []; endings = another (a_mark right_parenthesis) none; whole = done (node p (Look j x (with_characters r (c ∷ e ∷ t) xs))); top = _; walks = λ k. refl; has = refl; low = omega arith }
-completed {s = s} (is_done f) = already s _ _ refl
+completed {s = s} st = already s _ _ refl
 
 -- words that end a form whose next expression is there, at its least height
 record Filled (s : Setting) (hole : Hole) (e : Tree) : Type 0 where
@@ -141,7 +140,7 @@ record Filled (s : Setting) (hole : Hole) (e : Tree) : Type 0 where
 
 ended_by : (s s' : Setting) (hole : Hole) (e x : Tree) (sh : Shape) (k k' : List Frame) (m : Mark) (n : Next) → tree sh ≡ Some x → reduce 22 x k ≡ (e, inside_frame s hole ∷ k') → close m hole e ≡ Some n → step (state s' sh k) (token somewhere (mark m)) ≡ Some (entered s k' n)
 ended_by s s' hole e x sh k k' m n h r c =
-    mark_step s' s' sh k somewhere m hole e x n h c ∙ ap (λ q. fill_hole m q.0 q.1) r ∙ ap (λ o. entered_all s k' o) c
+    mark_step s' sh k somewhere m hole e x n h c ∙ ap (λ q. fill_hole m q.0 q.1) r ∙ ap (λ o. entered_all s k' o) c
 
 -- the mark alone ends the form
 closed : (s : Setting) (hole : Hole) (e : Tree) (m : Mark) (sh' : Shape) (top : Tree) → close m hole e ≡ Some (stays sh') → tree sh' ≡ Some top → shape_least sh' ≤ filled (height e) hole → Filled s hole e
@@ -169,28 +168,21 @@ closed_by s hole e m n more sh' top y c w t low =
       low = low;
     }
 
-applied_low : (h : Head) (es : _) (e : Tree) → height (applied h (es ▷ e)) ≤ suc (max (height_in_head h) (max (height_of_trees es) (height e)))
-applied_low (calls t o i n q p) es e = omega arith
-applied_low (built k p) es e = omega arith
-
 filled_in : {s : Setting} {hole : Hole} {row : Row} → HoleStands s hole row → (e : Tree) → Filled s hole e
 filled_in {s = s} (is_parenthesis d) e = closed s _ e right_parenthesis (done e) e refl refl (omega arith)
-filled_in {s = s} (is_plain_index {u = reading} {p = p} {n = n} y i) e = closed s _ e right_bracket (indexed_name p n e) _ refl refl (omega arith)
-filled_in {s = s} (is_plain_index {u = addressing q} {p = p} {n = n} y i) e = closed s _ e right_bracket (ready (addressing q) (Named n (index e) p) memory) _ refl refl (omega arith)
-filled_in {s = s} (is_plain_index {u = changing q b} {p = p} {n = n} y i) e = closed s _ e right_bracket (ready (changing q b) (Named n (index e) p) memory) _ refl refl (omega arith)
-filled_in {s = s} (is_name_index {u = reading} {p = p} {n = n} y i x) e = closed s _ e right_bracket (ready reading (Named n (index e) p) memory) _ refl refl (omega arith)
-filled_in {s = s} (is_name_index {u = addressing q} {p = p} {n = n} y i x) e = closed s _ e right_bracket (ready (addressing q) (Named n (index e) p) memory) _ refl refl (omega arith)
-filled_in {s = s} (is_name_index {u = changing q b} {p = p} {n = n} y i x) e = closed s _ e right_bracket (ready (changing q b) (Named n (index e) p) memory) _ refl refl (omega arith)
-filled_in {s = s} (is_part_index {u = u} {p = p} {n = n} {z = z} y i x) e = closed s _ e right_bracket (ready u (Part n z (index e) p) memory) _ refl refl (omega arith)
-filled_in {s = s} (is_memory_address {u = u} {p = p} {z = z} y i) e = closed s _ e right_bracket (memory_word u p z e) _ refl refl (omega arith)
-filled_in {s = s} (is_memory_index {u = u} {p = p} {z = z} {e = a} y i) e = closed s _ e right_bracket (ready u (Memory z a (index e) p) memory) _ refl refl (omega arith)
-filled_in {s = s} (is_first_bit {u = u} {p = p} {a = a} {x = x} y i b c t) e = closed s _ e right_bracket (ready u (Register a (bits (single e)) p) x) _ refl refl (omega arith)
-filled_in {s = s} (is_last_bit {u = u} {p = p} {a = a} {x = x} {low = low} y i b c t) e = closed s _ e right_bracket (ready u (Register a (bits (range low e)) p) x) _ refl refl (omega arith)
+filled_in {s = s} (is_plain_index {u = reading} {p = p} {n = n} y i) e = closed s _ e right_bracket (element p n e) _ refl refl (omega arith)
+filled_in {s = s} (is_plain_index {u = u} {p = p} {n = n} y i) e = closed s _ e right_bracket (part u (Named n (index e) p) memory) _ refl refl (omega arith)
+filled_in {s = s} (is_name_index {u = u} {p = p} {n = n} y i x) e = closed s _ e right_bracket (part u (Named n (index e) p) memory) _ refl refl (omega arith)
+filled_in {s = s} (is_part_index {u = u} {p = p} {n = n} {z = z} y i x) e = closed s _ e right_bracket (part u (Part n z (index e) p) memory) _ refl refl (omega arith)
+filled_in {s = s} (is_memory_address {u = u} {p = p} {z = z} y i) e = closed s _ e right_bracket (part u (Memory z e no_index p) memory) _ refl refl (omega arith)
+filled_in {s = s} (is_memory_index {u = u} {p = p} {z = z} {e = a} y i) e = closed s _ e right_bracket (part u (Memory z a (index e) p) memory) _ refl refl (omega arith)
+filled_in {s = s} (is_first_bit {u = u} {p = p} {a = a} {x = x} y i b c t) e = closed s _ e right_bracket (part u (Register a (bits (single e)) p) x) _ refl refl (omega arith)
+filled_in {s = s} (is_last_bit {u = u} {p = p} {a = a} {x = x} {low = low} y i b c t) e = closed s _ e right_bracket (part u (Register a (bits (range low e)) p) x) _ refl refl (omega arith)
 filled_in {s = s} (is_trapped_index {p = p} {n = n} i) e = closed_by s _ e right_bracket (stays (trapped_element p n e)) (token somewhere (mark dot) ∷ token somewhere (name letter) ∷ []) (headed (calls true (Some n) (index e) letter somewhere p)) _ (another (a_mark dot) (another a_name none)) refl (λ k. refl) refl (omega arith)
-filled_in {s = s} (is_argument {h = h} {es = es} f a) e = closed s _ e right_parenthesis (done (applied h (es ▷ e))) _ refl refl (applied_low h es e)
+filled_in {s = s} (is_argument {h = h} {es = es} f a) e = closed s _ e right_parenthesis (done (applied h (es ▷ e))) _ refl refl (omega (arith, applied_least h es e))
 filled_in {s = s} (is_next_item {p = p} {es = es} d a) e = closed s _ e right_parenthesis (done (node p (Strings (es ▷ e)))) _ refl refl (omega arith)
 filled_in {s = s} (is_constant {p = p} d) e = closed s _ e right_parenthesis (done (node p (Built 0 (no_trees ▷ e)))) _ refl refl (omega arith)
-filled_in {s = s} (is_look_for {p = p} {k = c} d) e = closed_by s _ e colon (opens (choice_of p c e no_items)) (token somewhere (name letter) ∷ token somewhere (mark right_parenthesis) ∷ []) (done (node p (Look c e (no_items ▸ single (alone))))) _ (another a_name (another (a_mark right_parenthesis) none)) refl (λ k. refl) refl (omega arith)
+filled_in {s = s} (is_look_for {p = p} {k = c} d) e = closed_by s _ e colon (opens (choice_of p c e no_items)) (token somewhere (name letter) ∷ token somewhere (mark right_parenthesis) ∷ []) (done (node p (Look c e (no_items ▸ single alone)))) _ (another a_name (another (a_mark right_parenthesis) none)) refl (λ k. refl) refl (omega arith)
 filled_in {s = s} (is_choice {p = p} {k = c} {x = x} {xs = xs} d y) e = closed s _ e right_parenthesis (done (node p (Look c x (xs ▸ single e)))) _ refl refl (omega arith)
 filled_in {s = s} (is_choice_to {p = p} {k = c} {x = x} {low = low} {xs = xs} d y) e = closed s _ e right_parenthesis (done (node p (Look c x (xs ▸ range low e)))) _ refl refl (omega arith)
 
@@ -204,38 +196,31 @@ pub record EndsAt (st : State) (n : ℕ) : Type 0 where
   pub accepts : accept end ≡ Some top
   pub low : height top ≤ n
 
-ends : {s0 s : Setting} {k : List Frame} {us : List Token} → Pending s0 s k us → (e : Tree) (s' : Setting) (sh : Shape) (k' : List Frame) (x : Tree) → whole_in s' sh ≡ Some x → reduce 22 x k' ≡ reduce 22 e k → EndsAt (state s' sh k') (need (height e) k)
-ends nothing_pending e s' sh k' x h r =
-    record { rest = []; endings = none; end = state s' sh k'; top = e; is = refl; accepts = ap (λ o. accepted o k') h ∙ ap (λ q. all_of q.0 q.1) r; low = omega arith }
-ends (after_operator {f = f} {k = k} vs l p d same kept alike small low b w g) e s' sh k' x h r =
-    let y = ends p (wrap f e) s' sh k' x h (r ∙ wraps 22 e f k b) in
-    record { rest = y.rest; endings = y.endings; end = y.end; top = y.top; is = y.is; accepts = y.accepts; low = omega (arith, y.low, need_wrap f e k b) }
-ends (in_hole {s = s} {h = hole} {k = k} p stands sp a) e s' sh k' x h r =
-    let f = filled_in stands e in
+-- a form with its expression
+after_form : {s : Setting} {k : List Frame} {hole : Hole} {e : Tree} → Filled s hole e → ((e : Tree) (s' : Setting) (sh : Shape) (k' : List Frame) (x : Tree) → whole_in s' sh ≡ Some x → reduce 22 x k' ≡ reduce 22 e k → EndsAt (state s' sh k') (need (height e) k)) → (s' : Setting) (sh : Shape) (k' : List Frame) (x : Tree) → tree sh ≡ Some x → reduce 22 x k' ≡ (e, inside_frame s hole ∷ k) → EndsAt (state s' sh k') (need (filled (height e) hole) k)
+after_form {s = s} {k = k} {hole = hole} {e = e} f below s' sh k' x h r =
     let g = lasting s f.whole f.top f.has in
-    let y = ends p g.top s g.whole k g.top g.has refl in
+    let y = below g.top s g.whole k g.top g.has refl in
     record {
       rest = f.rest ++ (g.rest ++ y.rest);
       endings = both_end f.endings (both_end g.endings y.endings);
       end = y.end;
       top = y.top;
-      is = goes_on (state s' sh k') (state s f.whole k) f.rest (g.rest ++ y.rest) (f.walks s' sh x k' k (whole_tree s' sh x h) r) ∙ goes_on (state s f.whole k) (state s g.whole k) g.rest y.rest (g.walks k) ∙ y.is;
+      is = goes_on (state s' sh k') (state s f.whole k) f.rest (g.rest ++ y.rest) (f.walks s' sh x k' k h r) ∙ goes_on (state s f.whole k) (state s g.whole k) g.rest y.rest (g.walks k) ∙ y.is;
       accepts = y.accepts;
       low = omega (arith, y.low, need_le k (height g.top) (filled (height e) hole) (omega (arith, f.low, g.low, tree_least g.whole g.top (whole_tree s g.whole g.top g.has))));
     }
+
+ends : {s0 s : Setting} {k : List Frame} {us : List Token} → Pending s0 s k us → (e : Tree) (s' : Setting) (sh : Shape) (k' : List Frame) (x : Tree) → whole_in s' sh ≡ Some x → reduce 22 x k' ≡ reduce 22 e k → EndsAt (state s' sh k') (need (height e) k)
+ends nothing_pending e s' sh k' x h r =
+    record { rest = []; endings = none; end = state s' sh k'; top = e; is = refl; accepts = ap (λ o. accepted o k') h ∙ ap (λ q. all_of q.0 q.1) r; low = omega arith }
+ends (after_operator {f = f} {k = k} vs l p d same kept alike small low b w m g) e s' sh k' x h r =
+    let y = ends p (wrap f e) s' sh k' x h (r ∙ wraps 22 e f k b) in
+    record { rest = y.rest; endings = y.endings; end = y.end; top = y.top; is = y.is; accepts = y.accepts; low = omega (arith, y.low, need_wrap f e k b) }
+ends (in_hole {s = s} {h = hole} {k = k} p stands sp a) e s' sh k' x h r =
+    after_form (filled_in stands e) (λ e s' sh k' x h r. ends p e s' sh k' x h r) s' sh k' x (whole_tree s' sh x h) r
 ends (in_first {s = s} {p = q} {k = k} p d sp a) e s' sh k' x h r =
-    let f = closed s (first_item q) e right_parenthesis (done (node q (Strings (no_trees ▷ e)))) _ refl refl (omega arith) in
-    let g = lasting s f.whole f.top f.has in
-    let y = ends p g.top s g.whole k g.top g.has refl in
-    record {
-      rest = f.rest ++ (g.rest ++ y.rest);
-      endings = both_end f.endings (both_end g.endings y.endings);
-      end = y.end;
-      top = y.top;
-      is = goes_on (state s' sh k') (state s f.whole k) f.rest (g.rest ++ y.rest) (f.walks s' sh x k' k (whole_tree s' sh x h) r) ∙ goes_on (state s f.whole k) (state s g.whole k) g.rest y.rest (g.walks k) ∙ y.is;
-      accepts = y.accepts;
-      low = omega (arith, y.low, need_le k (height g.top) (filled (height e) (first_item q)) (omega (arith, f.low, g.low, tree_least g.whole g.top (whole_tree s g.whole g.top g.has))));
-    }
+    after_form (closed s (first_item q) e right_parenthesis (done (node q (Strings (no_trees ▷ e)))) _ refl refl (omega arith)) (λ e s' sh k' x h r. ends p e s' sh k' x h r) s' sh k' x (whole_tree s' sh x h) r
 
 ends_form : (s0 s : Setting) (sh : Shape) (k : List Frame) (ts : List Token) → Begun s0 s (stays sh) k ts → EndsAt (state s sh k) (need (shape_least sh) k)
 ends_form s0 s sh k ts b =
@@ -252,10 +237,19 @@ ends_form s0 s sh k ts b =
       low = omega (arith, y.low, need_le k (height g.top) (shape_least sh) (omega (arith, c.low, g.low, tree_least g.whole g.top (whole_tree s g.whole g.top g.has))));
     }
 
+-- where an operand comes
+ends_fresh : (s0 s : Setting) (k : List Frame) (ts us : List Token) → Begun s0 s (stays fresh) k ts → Pending s0 s k us → EndsAt (state s fresh k) (operand_least k)
+ends_fresh s0 s k ts us b (after_operator {s = s'} {f = infix_frame r c p (left_variable v)} {k = k'} {us = us'} vs l pend d same kept alike small low h w may g) =
+    let y = ends_form s0 (behind s') fresh (assign_frame (Some c) p v ∷ k') _ (becomes s0 s' r c p somewhere v k' us' vs pend may) in
+    let e = same (omega (arith, boolean_most (suc r) may.boolean)) in
+    record { rest = token somewhere (mark equal) ∷ y.rest; endings = another (a_mark equal) y.endings; end = y.end; top = y.top; is = ap (λ s. walk (state (behind s) fresh (assign_frame (Some c) p v ∷ k')) y.rest) (sym e) ∙ y.is; accepts = y.accepts; low = y.low }
+ends_fresh s0 s k ts us b pend = ends_form s0 s fresh k ts b
+
 ends_state : (s0 : Setting) (st : State) (ts : List Token) → Stands s0 st ts → EndsAt st (least st)
+ends_state s0 (state s (using reading) k) ts b = ends_fresh s0 s k ts b.us b b.pending
 ends_state s0 (state s sh k) ts b = ends_form s0 s sh k ts b
-ends_state s0 (joined s r c p v k) ts b =
-    let y = ends_form s0 (behind s) fresh (assign_frame (Some c) p v ∷ k) (ts ++ token somewhere (mark equal) ∷ []) (joint_assigns s0 s r c p v k ts somewhere b) in
+ends_state s0 (becoming s c p v k) ts b =
+    let y = ends_form s0 (behind s) fresh (assign_frame (Some c) p v ∷ k) _ (becomes s0 s b.r c p somewhere v k b.us b.vs b.pending b.becoming_) in
     record { rest = token somewhere (mark equal) ∷ y.rest; endings = another (a_mark equal) y.endings; end = y.end; top = y.top; is = y.is; accepts = y.accepts; low = y.low }
 
 -- an expression that goes on from what has been read, of the least height

@@ -12,7 +12,7 @@ use Rattle.p8_grammar.specs.Lexemes.{Setting, in_method, in_declaration, in_dat,
 use Rattle.p8_grammar.specs.Grammar as grammar
 use Rattle.p8_grammar.specs.Grammar.{word, upto, unquoted, Row, begin, ◌▹◌, Names, result_word, Variables, named, indexed, part, part_indexed, memory_at, memory_indexed, register_whole, register_bit, register_bits, Head, calls, built, applied, Heads, trapped, of_object, of_element, of_built_in, of_command, Arguments, no_arguments, argument, with_characters, Choices, no_choices, value_choice, range_choice, text_choice, quoted, Texts, first_text, first_value, next_text, next_value, Forms, a_number, a_character, the_place, parentheses, variable, name_alone, changed_by, changed_before, changed_after, address_of, plain_call, bare_call, full_call, object_constant, a_value, a_string, one_item, items_text, items_value, a_constant, look_value, look_range, look_text, Prefix, at_object, unary, with_prefix, prefix_of, effect_of, infix_of, Reads, operand, before, between, assigned, assigned_by_word, Spells, nothing, a_word, an_expression, an_unquoted, a_reserved_word}
 use Rattle.p8_grammar.specs.Proper.{is_register_for, IsProperLexeme, lexeme_in, AreProper, IsProperAction}
-use Rattle.p8_grammar.proofs.FormsStand.{clash, inside_value, behind_value}
+use Rattle.p8_grammar.proofs.Settings.{clash, inside_value, behind_value}
 
 -- words one after the other
 

@@ -1,9 +1,10 @@
 -- Walks over pieces, and frames that are ended or kept.
 use Rattle.std.proofs.Common.{◌≡◌, ℕ, ◌<◌, ◌≤◌, List, [], ◌∷◌, ◌++◌, Option, Some, None, Bool, true, false, refl, ap, ◌∙◌, le-leb}
-use Rattle.std.specs.Prelude.{option_and_then, IsTrue, ◌&&◌}
-use Rattle.std.proofs.lemmas.Bool.{lt-leb}
+use Rattle.std.specs.Prelude.{option_and_then, IsTrue, nat_le, ◌&&◌, if◌then◌else◌}
+use Rattle.std.proofs.lemmas.Bool.{lt-leb, leb-true}
 use Rattle.p8_tree.specs.Expressions.{Tree}
 use Rattle.p8_grammar.specs.Lexemes.{Token}
+use Rattle.p8_grammar.specs.Grammar.{is_boolean}
 use Rattle.p8_grammar.specs.Machine.{Next, only_if, Frame, level_bound, level_bound_of, wrap, reduce, State, step, walk}
 
 -- a walk over two pieces
@@ -32,10 +33,27 @@ kept m e (f ∷ k) lt = rw (lt-leb (level_bound f) m lt) refl
 pub wraps : (m : ℕ) (e : Tree) (f : Frame) (k : List Frame) → level_bound f ≤ m → reduce m e (f ∷ k) ≡ reduce m (wrap f e) k
 wraps m e f k le = rw (le-leb (level_bound f) m le) refl
 
+-- what a test lets through
 pub only : (b : Bool) (n : Next) → IsTrue b → only_if b n ≡ Some n
 only true n h = refl
 only false n h = absurd cc
 
+pub passed : {A : Type 0} (b : Bool) (o o' : A) → IsTrue b → (if b then o else o') ≡ o
+passed true o o' h = refl
+passed false o o' h = absurd cc
+
 pub both : (a b : Bool) → IsTrue a → IsTrue b → IsTrue (a && b)
 both true b x y = y
 both false b x y = absurd cc
+
+pub first_true : (a b : Bool) → IsTrue (a && b) → IsTrue a
+first_true true b h = refl
+first_true false b h = absurd cc
+
+pub second_true : (a b : Bool) → IsTrue (a && b) → IsTrue b
+second_true true b h = h
+second_true false b h = absurd cc
+
+-- the ranks of AND and OR
+pub boolean_most : (r : ℕ) → IsTrue (is_boolean r) → r ≤ 10
+boolean_most r h = leb-true r 10 (second_true (nat_le 9 r) (nat_le r 10) h)

@@ -3,10 +3,17 @@
 --
 -- A form is a row of parts: words, and whole expressions with the mark that ends each. Places are
 -- those by which refusals name a form.
-use Rattle.std.specs.Prelude.{◌≡◌, ℕ, ◌<◌, ◌≤◌, suc, ◌+◌, ◌-◌, ◌*◌, ◌==◌, nat_le, if◌then◌else◌, not, Bool, true, false, ◌&&◌, IsTrue, Option, Some, None, List, [], ◌∷◌, ◌++◌, length, take}
+use Rattle.std.specs.Prelude.{◌≡◌, ℕ, ◌<◌, ◌≤◌, suc, ◌+◌, ◌-◌, ◌*◌, ◌==◌, nat_le, if◌then◌else◌, not, Bool, true, false, ◌&&◌, IsTrue, Option, Some}
+use Rattle.std.specs.Prelude.{None, List, [], ◌∷◌, ◌++◌, length, take}
 use Rattle.p8_tree.specs.declared.places.Place.{Place}
-use Rattle.p8_tree.specs.Expressions.{Tree, node, Form, Number, Str, Strings, Here, Var, Call, Unary, Binary, Assign, Change, Address, ObjectAddress, ObjConst, Built, Look, Variable, Named, Part, Memory, Register, Index, no_index, index, whole, bits, single, range, Trees, no_trees, ◌▷◌, Items, no_items, ◌▸◌}
-use Rattle.p8_grammar.specs.Lexemes.{Setting, is_value, allows_index, is_dat, inside, behind, Access, memory, is_written, has_bits, is_in, Mark, left_parenthesis, right_parenthesis, left_bracket, right_bracket, comma, colon, dot, dot_dot, hash, backslash, equal, Lexeme, number, name, method_result, string, mark, prefix_word, infix_word, sign, assigns, changes, address, object_address, size, register, here, string_word, constant_word, look, value, built_in, command, Token, token, reserved, plain, name_in, is_free}
+use Rattle.p8_tree.specs.Expressions.{Tree, node, Form, Number, Str, Strings, Here, Var, Call, Unary, Binary, Assign, Change, Address, ObjectAddress}
+use Rattle.p8_tree.specs.Expressions.{ObjConst, Built, Look, Variable, Named, Part, Memory, Register, Index, no_index, index, whole, bits, single}
+use Rattle.p8_tree.specs.Expressions.{range, Trees, no_trees, ◌▷◌, Items, no_items, ◌▸◌}
+use Rattle.p8_grammar.specs.Lexemes.{Setting, is_value, allows_index, is_dat, inside, behind, Access, memory, is_written, has_bits, is_in, Mark}
+use Rattle.p8_grammar.specs.Lexemes.{left_parenthesis, right_parenthesis, left_bracket, right_bracket, comma, colon, dot, dot_dot, hash, backslash}
+use Rattle.p8_grammar.specs.Lexemes.{equal, Lexeme, number, name, method_result, string, mark, prefix_word, infix_word, sign, assigns, changes}
+use Rattle.p8_grammar.specs.Lexemes.{address, object_address, size, register, here, string_word, constant_word, look, value, built_in, command}
+use Rattle.p8_grammar.specs.Lexemes.{Token, token, reserved, plain, name_in, is_free}
 
 infixl 30 ◌▹◌
 -- a word, or an expression up to the mark that ends it; or one that isn't a string alone
@@ -28,28 +35,38 @@ result_name = 82 ∷ 69 ∷ 83 ∷ 85 ∷ 76 ∷ 84 ∷ []
 pub data Names (s : Setting) (before : Row) : List ℕ → Place → Row → Type 0 where
   plain_name : {n : List ℕ} {p : Place} → Names s before n p (before ▹ word p (name n))
   result_word : {p : Place} → Names s before result_name p (before ▹ word p method_result)
-  local_label : {n : List ℕ} {p q : Place} {x : Lexeme} → IsTrue (is_dat s) → name_in x ≡ Some n → Names s before (58 ∷ n) p (before ▹ word p (mark colon) ▹ word q x)
+  local_label : {n : List ℕ} {p q : Place} {x : Lexeme} → IsTrue (is_dat s) → name_in x ≡ Some n →
+      Names s before (58 ∷ n) p (before ▹ word p (mark colon) ▹ word q x)
 
 -- a variable after what stands before it, and what may be done with it
 pub data Variables (s : Setting) (before : Row) : Access → Variable → Row → Type 0 where
   -- name
   named : {n : List ℕ} {p : Place} {row : Row} → Names s before n p row → Variables s before memory (Named n no_index p) row
   -- name[e]
-  indexed : {n : List ℕ} {p q : Place} {e : Tree} {row : Row} → IsTrue (allows_index s) → Names s before n p row → Variables s before memory (Named n (index e) p) (row ▹ word q (mark left_bracket) ▹ upto e right_bracket)
+  indexed : {n : List ℕ} {p q : Place} {e : Tree} {row : Row} → IsTrue (allows_index s) → Names s before n p row →
+      Variables s before memory (Named n (index e) p) (row ▹ word q (mark left_bracket) ▹ upto e right_bracket)
   -- name.BYTE
-  part : {n : List ℕ} {p q r : Place} {z : ℕ} {row : Row} → Names s before n p row → Variables s before memory (Part n z no_index p) (row ▹ word q (mark dot) ▹ word r (size z))
+  part : {n : List ℕ} {p q r : Place} {z : ℕ} {row : Row} → Names s before n p row →
+      Variables s before memory (Part n z no_index p) (row ▹ word q (mark dot) ▹ word r (size z))
   -- name.BYTE[e]
-  part_indexed : {n : List ℕ} {p q r o : Place} {z : ℕ} {e : Tree} {row : Row} → IsTrue (allows_index s) → Names s before n p row → Variables s before memory (Part n z (index e) p) (row ▹ word q (mark dot) ▹ word r (size z) ▹ word o (mark left_bracket) ▹ upto e right_bracket)
+  part_indexed : {n : List ℕ} {p q r o : Place} {z : ℕ} {e : Tree} {row : Row} → IsTrue (allows_index s) → Names s before n p row →
+      Variables s before memory (Part n z (index e) p) (row ▹ word q (mark dot) ▹ word r (size z) ▹ word o (mark left_bracket) ▹ upto e right_bracket)
   -- BYTE[e]
-  memory_at : {p q : Place} {z : ℕ} {e : Tree} → IsTrue (allows_index s) → Variables s before memory (Memory z e no_index p) (before ▹ word p (size z) ▹ word q (mark left_bracket) ▹ upto e right_bracket)
+  memory_at : {p q : Place} {z : ℕ} {e : Tree} → IsTrue (allows_index s) →
+      Variables s before memory (Memory z e no_index p) (before ▹ word p (size z) ▹ word q (mark left_bracket) ▹ upto e right_bracket)
   -- BYTE[e][e]
-  memory_indexed : {p q r : Place} {z : ℕ} {e i : Tree} → IsTrue (allows_index s) → Variables s before memory (Memory z e (index i) p) (before ▹ word p (size z) ▹ word q (mark left_bracket) ▹ upto e right_bracket ▹ word r (mark left_bracket) ▹ upto i right_bracket)
+  memory_indexed : {p q r : Place} {z : ℕ} {e i : Tree} → IsTrue (allows_index s) →
+      Variables s before memory (Memory z e (index i) p)
+      (before ▹ word p (size z) ▹ word q (mark left_bracket) ▹ upto e right_bracket ▹ word r (mark left_bracket) ▹ upto i right_bracket)
   -- a register
   register_whole : {a : ℕ} {x : Access} {p : Place} → IsTrue (is_in s x) → Variables s before x (Register a whole p) (before ▹ word p (register a x))
   -- a register[e]
-  register_bit : {a : ℕ} {x : Access} {p q : Place} {e : Tree} → IsTrue (allows_index s) → IsTrue (is_in s x) → IsTrue (has_bits x) → Variables s before x (Register a (bits (single e)) p) (before ▹ word p (register a x) ▹ word q (mark left_bracket) ▹ upto e right_bracket)
+  register_bit : {a : ℕ} {x : Access} {p q : Place} {e : Tree} → IsTrue (allows_index s) → IsTrue (is_in s x) → IsTrue (has_bits x) →
+      Variables s before x (Register a (bits (single e)) p) (before ▹ word p (register a x) ▹ word q (mark left_bracket) ▹ upto e right_bracket)
   -- a register[e..e]
-  register_bits : {a : ℕ} {x : Access} {p q : Place} {low high : Tree} → IsTrue (allows_index s) → IsTrue (is_in s x) → IsTrue (has_bits x) → Variables s before x (Register a (bits (range low high)) p) (before ▹ word p (register a x) ▹ word q (mark left_bracket) ▹ upto low dot_dot ▹ upto high right_bracket)
+  register_bits : {a : ℕ} {x : Access} {p q : Place} {low high : Tree} → IsTrue (allows_index s) → IsTrue (is_in s x) → IsTrue (has_bits x) →
+      Variables s before x (Register a (bits (range low high)) p)
+      (before ▹ word p (register a x) ▹ word q (mark left_bracket) ▹ upto low dot_dot ▹ upto high right_bracket)
 
 abbrev pub place_of : Variable → Place
 place_of (Named n i p) = p
@@ -78,9 +95,12 @@ pub data Heads (s : Setting) : Head → Row → Type 0 where
   -- \m
   trapped : {n : List ℕ} {p : Place} (o : Place) → Heads s (calls true None no_index n p p) (opening true o ▹ word p (name n))
   -- obj.m and \obj.m
-  of_object : {trap : Bool} {n m : List ℕ} {p q r : Place} (o : Place) → Heads s (calls trap (Some n) no_index m q p) (opening trap o ▹ word p (name n) ▹ word r (mark dot) ▹ word q (name m))
+  of_object : {trap : Bool} {n m : List ℕ} {p q r : Place} (o : Place) →
+      Heads s (calls trap (Some n) no_index m q p) (opening trap o ▹ word p (name n) ▹ word r (mark dot) ▹ word q (name m))
   -- obj[e].m and \obj[e].m
-  of_element : {trap : Bool} {n m : List ℕ} {p q r u : Place} {e : Tree} (o : Place) → IsTrue (allows_index s) → Heads s (calls trap (Some n) (index e) m q p) (opening trap o ▹ word p (name n) ▹ word u (mark left_bracket) ▹ upto e right_bracket ▹ word r (mark dot) ▹ word q (name m))
+  of_element : {trap : Bool} {n m : List ℕ} {p q r u : Place} {e : Tree} (o : Place) → IsTrue (allows_index s) →
+      Heads s (calls trap (Some n) (index e) m q p) (opening trap o ▹ word p (name n) ▹ word u (mark left_bracket) ▹ upto e right_bracket ▹ word r
+      (mark dot) ▹ word q (name m))
   -- LOCKNEW and the like
   of_built_in : {k : ℕ} {p : Place} → Heads s (built k p) (begin ▹ word p (built_in k))
   -- WAITCNT and the like, as an action
@@ -100,8 +120,10 @@ with_characters p (c ∷ t) xs = with_characters p t (xs ▸ single (node p (Num
 pub data Choices (before : Row) : Items → Row → Type 0 where
   no_choices : Choices before no_items before
   value_choice : {xs : Items} {e : Tree} {row : Row} → Choices before xs row → Choices before (xs ▸ single e) (row ▹ upto e comma)
-  range_choice : {xs : Items} {low high : Tree} {row : Row} → Choices before xs row → Choices before (xs ▸ range low high) (row ▹ upto low dot_dot ▹ upto high comma)
-  text_choice : {xs : Items} {p o : Place} {c d : ℕ} {t : List ℕ} {row : Row} → Choices before xs row → Choices before (with_characters p (c ∷ d ∷ t) xs) (row ▹ word p (string (c ∷ d ∷ t)) ▹ word o (mark comma))
+  range_choice : {xs : Items} {low high : Tree} {row : Row} → Choices before xs row →
+      Choices before (xs ▸ range low high) (row ▹ upto low dot_dot ▹ upto high comma)
+  text_choice : {xs : Items} {p o : Place} {c d : ℕ} {t : List ℕ} {row : Row} → Choices before xs row →
+      Choices before (with_characters p (c ∷ d ∷ t) xs) (row ▹ word p (string (c ∷ d ∷ t)) ▹ word o (mark comma))
 
 -- a string as an item of STRING: one of one character is its code
 abbrev pub quoted : Place → List ℕ → Tree
@@ -110,9 +132,11 @@ quoted p t = node p (Str t)
 
 -- STRING with this place and its items but for the last, each with the comma after it
 pub data Texts (p : Place) : Trees → Row → Type 0 where
-  first_text : {q r o : Place} {c : ℕ} {t : List ℕ} → Texts p (no_trees ▷ quoted r (c ∷ t)) (begin ▹ word p string_word ▹ word q (mark left_parenthesis) ▹ word r (string (c ∷ t)) ▹ word o (mark comma))
+  first_text : {q r o : Place} {c : ℕ} {t : List ℕ} →
+      Texts p (no_trees ▷ quoted r (c ∷ t)) (begin ▹ word p string_word ▹ word q (mark left_parenthesis) ▹ word r (string (c ∷ t)) ▹ word o (mark comma))
   first_value : {q : Place} {e : Tree} → Texts p (no_trees ▷ e) (begin ▹ word p string_word ▹ word q (mark left_parenthesis) ▹ unquoted e comma)
-  next_text : {es : Trees} {r o : Place} {c d : ℕ} {t : List ℕ} {row : Row} → Texts p es row → Texts p (es ▷ node r (Str (c ∷ d ∷ t))) (row ▹ word r (string (c ∷ d ∷ t)) ▹ word o (mark comma))
+  next_text : {es : Trees} {r o : Place} {c d : ℕ} {t : List ℕ} {row : Row} → Texts p es row →
+      Texts p (es ▷ node r (Str (c ∷ d ∷ t))) (row ▹ word r (string (c ∷ d ∷ t)) ▹ word o (mark comma))
   next_value : {es : Trees} {e : Tree} {row : Row} → Texts p es row → Texts p (es ▷ e) (row ▹ upto e comma)
 
 -- an operator before its operand
@@ -145,36 +169,55 @@ pub data Forms (s : Setting) : Tree → Row → Type 0 where
   -- a name alone, as an action: a call, which its tree doesn't tell
   name_alone : {n : List ℕ} {p : Place} → IsTrue (not (is_value s)) → Forms s (node p (Var (Named n no_index p))) (begin ▹ word p (name n))
   -- -v, !v and the like, as actions
-  changed_by : {x : Access} {v : Variable} {p : Place} {w : Lexeme} {o : Prefix} {k : ℕ} {row : Row} → IsTrue (not (is_value s)) → prefix_of w ≡ Some o → effect_of o ≡ Some k → IsTrue (is_written x) → Variables s (begin ▹ word p w) x v row → Forms s (node p (Change v k)) row
+  changed_by : {x : Access} {v : Variable} {p : Place} {w : Lexeme} {o : Prefix} {k : ℕ} {row : Row} → IsTrue (not (is_value s)) →
+      prefix_of w ≡ Some o → effect_of o ≡ Some k → IsTrue (is_written x) → Variables s (begin ▹ word p w) x v row → Forms s (node p (Change v k)) row
   -- ++v, --v, ~v and ~~v
-  changed_before : {x : Access} {v : Variable} {p : Place} {b a : ℕ} {row : Row} → IsTrue (is_written x) → Variables s (begin ▹ word p (changes b a)) x v row → Forms s (node p (Change v b)) row
+  changed_before : {x : Access} {v : Variable} {p : Place} {b a : ℕ} {row : Row} → IsTrue (is_written x) →
+      Variables s (begin ▹ word p (changes b a)) x v row → Forms s (node p (Change v b)) row
   -- v++, v--, v~ and v~~
-  changed_after : {x : Access} {v : Variable} {p : Place} {b a : ℕ} {row : Row} → IsTrue (is_written x) → Variables s begin x v row → Forms s (node p (Change v a)) (row ▹ word p (changes b a))
+  changed_after : {x : Access} {v : Variable} {p : Place} {b a : ℕ} {row : Row} → IsTrue (is_written x) → Variables s begin x v row →
+      Forms s (node p (Change v a)) (row ▹ word p (changes b a))
   -- @v
-  address_of : {v : Variable} {p : Place} {row : Row} → IsTrue (is_value s) → Variables s (begin ▹ word p address) memory v row → Forms s (node p (Address v)) row
+  address_of : {v : Variable} {p : Place} {row : Row} → IsTrue (is_value s) → Variables s (begin ▹ word p address) memory v row →
+      Forms s (node p (Address v)) row
   -- m(e, e)
-  plain_call : {n : List ℕ} {p q : Place} {es : Trees} {e : Tree} {row : Row} → Arguments (begin ▹ word p (name n) ▹ word q (mark left_parenthesis)) es row → Forms s (node p (Call false None no_index n p (es ▷ e))) (row ▹ upto e right_parenthesis)
+  plain_call : {n : List ℕ} {p q : Place} {es : Trees} {e : Tree} {row : Row} →
+      Arguments (begin ▹ word p (name n) ▹ word q (mark left_parenthesis)) es row →
+      Forms s (node p (Call false None no_index n p (es ▷ e))) (row ▹ upto e right_parenthesis)
   -- the other calls and the built-ins, without arguments
   bare_call : {h : Head} {row : Row} → Heads s h row → Forms s (applied h no_trees) row
   -- and with arguments
-  full_call : {h : Head} {q : Place} {es : Trees} {e : Tree} {row row' : Row} → Heads s h row → Arguments (row ▹ word q (mark left_parenthesis)) es row' → Forms s (applied h (es ▷ e)) (row' ▹ upto e right_parenthesis)
+  full_call : {h : Head} {q : Place} {es : Trees} {e : Tree} {row row' : Row} → Heads s h row →
+      Arguments (row ▹ word q (mark left_parenthesis)) es row' → Forms s (applied h (es ▷ e)) (row' ▹ upto e right_parenthesis)
   -- obj#name
-  object_constant : {n m : List ℕ} {p q r : Place} → IsTrue (is_value s) → Forms s (node p (ObjConst n m q)) (begin ▹ word p (name n) ▹ word r (mark hash) ▹ word q (name m))
+  object_constant : {n m : List ℕ} {p q r : Place} → IsTrue (is_value s) →
+      Forms s (node p (ObjConst n m q)) (begin ▹ word p (name n) ▹ word r (mark hash) ▹ word q (name m))
   -- COGID, CLKFREQ and CLKMODE
   a_value : {k : ℕ} {p : Place} → Forms s (node p (Built k no_trees)) (begin ▹ word p (value k))
   -- STRING("text")
-  a_string : {c : ℕ} {t : List ℕ} {p q r o : Place} → IsTrue (is_value s) → Forms s (node p (Str (c ∷ t))) (begin ▹ word p string_word ▹ word q (mark left_parenthesis) ▹ word r (string (c ∷ t)) ▹ word o (mark right_parenthesis))
+  a_string : {c : ℕ} {t : List ℕ} {p q r o : Place} → IsTrue (is_value s) →
+      Forms s (node p (Str (c ∷ t))) (begin ▹ word p string_word ▹ word q (mark left_parenthesis) ▹ word r (string (c ∷ t)) ▹ word o (mark right_parenthesis))
   -- STRING(e)
-  one_item : {p q : Place} {e : Tree} → IsTrue (is_value s) → Forms s (node p (Strings (no_trees ▷ e))) (begin ▹ word p string_word ▹ word q (mark left_parenthesis) ▹ unquoted e right_parenthesis)
+  one_item : {p q : Place} {e : Tree} → IsTrue (is_value s) →
+      Forms s (node p (Strings (no_trees ▷ e))) (begin ▹ word p string_word ▹ word q (mark left_parenthesis) ▹ unquoted e right_parenthesis)
   -- STRING(items), by their last item
-  items_text : {p r o : Place} {c d : ℕ} {t : List ℕ} {es : Trees} {row : Row} → IsTrue (is_value s) → Texts p es row → Forms s (node p (Strings (es ▷ node r (Str (c ∷ d ∷ t))))) (row ▹ word r (string (c ∷ d ∷ t)) ▹ word o (mark right_parenthesis))
-  items_value : {p : Place} {e : Tree} {es : Trees} {row : Row} → IsTrue (is_value s) → Texts p es row → Forms s (node p (Strings (es ▷ e))) (row ▹ upto e right_parenthesis)
+  items_text : {p r o : Place} {c d : ℕ} {t : List ℕ} {es : Trees} {row : Row} → IsTrue (is_value s) → Texts p es row →
+      Forms s (node p (Strings (es ▷ node r (Str (c ∷ d ∷ t))))) (row ▹ word r (string (c ∷ d ∷ t)) ▹ word o (mark right_parenthesis))
+  items_value : {p : Place} {e : Tree} {es : Trees} {row : Row} → IsTrue (is_value s) → Texts p es row →
+      Forms s (node p (Strings (es ▷ e))) (row ▹ upto e right_parenthesis)
   -- CONSTANT(e)
-  a_constant : {p q : Place} {e : Tree} → IsTrue (is_value s) → Forms s (node p (Built 0 (no_trees ▷ e))) (begin ▹ word p constant_word ▹ word q (mark left_parenthesis) ▹ upto e right_parenthesis)
+  a_constant : {p q : Place} {e : Tree} → IsTrue (is_value s) →
+      Forms s (node p (Built 0 (no_trees ▷ e))) (begin ▹ word p constant_word ▹ word q (mark left_parenthesis) ▹ upto e right_parenthesis)
   -- LOOKUP(e: items) and the like, by their last item
-  look_value : {k : ℕ} {p q : Place} {x e : Tree} {xs : Items} {row : Row} → IsTrue (is_value s) → Choices (begin ▹ word p (look k) ▹ word q (mark left_parenthesis) ▹ upto x colon) xs row → Forms s (node p (Look k x (xs ▸ single e))) (row ▹ upto e right_parenthesis)
-  look_range : {k : ℕ} {p q : Place} {x low high : Tree} {xs : Items} {row : Row} → IsTrue (is_value s) → Choices (begin ▹ word p (look k) ▹ word q (mark left_parenthesis) ▹ upto x colon) xs row → Forms s (node p (Look k x (xs ▸ range low high))) (row ▹ upto low dot_dot ▹ upto high right_parenthesis)
-  look_text : {k : ℕ} {p q r o : Place} {x : Tree} {c d : ℕ} {t : List ℕ} {xs : Items} {row : Row} → IsTrue (is_value s) → Choices (begin ▹ word p (look k) ▹ word q (mark left_parenthesis) ▹ upto x colon) xs row → Forms s (node p (Look k x (with_characters r (c ∷ d ∷ t) xs))) (row ▹ word r (string (c ∷ d ∷ t)) ▹ word o (mark right_parenthesis))
+  look_value : {k : ℕ} {p q : Place} {x e : Tree} {xs : Items} {row : Row} → IsTrue (is_value s) →
+      Choices (begin ▹ word p (look k) ▹ word q (mark left_parenthesis) ▹ upto x colon) xs row →
+      Forms s (node p (Look k x (xs ▸ single e))) (row ▹ upto e right_parenthesis)
+  look_range : {k : ℕ} {p q : Place} {x low high : Tree} {xs : Items} {row : Row} → IsTrue (is_value s) →
+      Choices (begin ▹ word p (look k) ▹ word q (mark left_parenthesis) ▹ upto x colon) xs row →
+      Forms s (node p (Look k x (xs ▸ range low high))) (row ▹ upto low dot_dot ▹ upto high right_parenthesis)
+  look_text : {k : ℕ} {p q r o : Place} {x : Tree} {c d : ℕ} {t : List ℕ} {xs : Items} {row : Row} → IsTrue (is_value s) →
+      Choices (begin ▹ word p (look k) ▹ word q (mark left_parenthesis) ▹ upto x colon) xs row →
+      Forms s (node p (Look k x (with_characters r (c ∷ d ∷ t) xs))) (row ▹ word r (string (c ∷ d ∷ t)) ▹ word o (mark right_parenthesis))
 
 -- The ranks of the operators, tightest first. An operator of rank r between operands has the level
 -- 2 r, one before its operand the level 2 r + 1; an assignment has the level 21, and no level is
@@ -215,22 +258,32 @@ mutual
   pub data Reads : Setting → ℕ → Tree → List Token → Type 0 where
     operand : {s : Setting} {l : ℕ} {e : Tree} {row : Row} {ts : List Token} → Forms s e row → Spells s row ts → Reads s l e ts
     -- an operator before its operand, whose level is at most the operator's
-    before : {s : Setting} {l : ℕ} {x : Lexeme} {o : Prefix} {p : Place} {e : Tree} {ts : List Token} → IsTrue (is_value s) → prefix_of (plain x) ≡ Some o → 2 * rank o + 1 ≤ l → Reads s (2 * rank o + 1) e ts → Reads s l (node p (with_prefix o e)) (token p x ∷ ts)
+    before : {s : Setting} {l : ℕ} {x : Lexeme} {o : Prefix} {p : Place} {e : Tree} {ts : List Token} → IsTrue (is_value s) →
+        prefix_of (plain x) ≡ Some o → 2 * rank o + 1 ≤ l → Reads s (2 * rank o + 1) e ts → Reads s l (node p (with_prefix o e)) (token p x ∷ ts)
     -- an operator between operands: the left one's level is at most the operator's, the right one's
     -- is below it
-    between : {s : Setting} {l r k : ℕ} {p : Place} {a b : Tree} {ts us : List Token} (x : Lexeme) → IsTrue (is_value s) → infix_of (plain x) ≡ Some (suc r, k) → r < 10 → 2 * suc r ≤ l → Reads s (2 * suc r) a ts → Reads s (2 * r + 1) b us → Reads s l (node p (Binary k a b)) (ts ++ token p x ∷ us)
+    between : {s : Setting} {l r k : ℕ} {p : Place} {a b : Tree} {ts us : List Token} (x : Lexeme) → IsTrue (is_value s) →
+        infix_of (plain x) ≡ Some (suc r, k) → r < 10 → 2 * suc r ≤ l → Reads s (2 * suc r) a ts → Reads s (2 * r + 1) b us →
+        Reads s l (node p (Binary k a b)) (ts ++ token p x ∷ us)
     -- an assignment: its right side may be one too
-    assigned : {s : Setting} {l : ℕ} {o : Option ℕ} {p : Place} {v : Variable} {e : Tree} {row : Row} {ts us : List Token} (x : Access) → 21 ≤ l → IsTrue (is_written x) → Variables s begin x v row → Spells s row ts → Reads (behind s) 21 e us → Reads s l (node p (Assign v o e)) (ts ++ token p (assigns o) ∷ us)
+    assigned : {s : Setting} {l : ℕ} {o : Option ℕ} {p : Place} {v : Variable} {e : Tree} {row : Row} {ts us : List Token} (x : Access) → 21 ≤ l →
+        IsTrue (is_written x) → Variables s begin x v row → Spells s row ts → Reads (behind s) 21 e us →
+        Reads s l (node p (Assign v o e)) (ts ++ token p (assigns o) ∷ us)
     -- an assignment by AND or OR
-    assigned_by_word : {s : Setting} {l k : ℕ} {p : Place} {v : Variable} {e : Tree} {row : Row} {ts us : List Token} (x : Access) (w : Lexeme) (r : ℕ) (q : Place) → 21 ≤ l → IsTrue (is_written x) → infix_of (plain w) ≡ Some (r, k) → IsTrue (is_boolean r) → Variables s begin x v row → Spells s row ts → Reads (behind s) 21 e us → Reads s l (node p (Assign v (Some k) e)) (ts ++ token p w ∷ token q (mark equal) ∷ us)
+    assigned_by_word : {s : Setting} {l k : ℕ} {p : Place} {v : Variable} {e : Tree} {row : Row} {ts us : List Token} (x : Access) (w : Lexeme)
+        (r : ℕ) (q : Place) → 21 ≤ l → IsTrue (is_written x) → infix_of (plain w) ≡ Some (r, k) → IsTrue (is_boolean r) → Variables s begin x v row →
+        Spells s row ts → Reads (behind s) 21 e us → Reads s l (node p (Assign v (Some k) e)) (ts ++ token p w ∷ token q (mark equal) ∷ us)
 
   -- these tokens spell this row
   pub data Spells : Setting → Row → List Token → Type 0 where
     nothing : {s : Setting} → Spells s begin []
     a_word : {s : Setting} {row : Row} {p : Place} {x : Lexeme} {ts : List Token} → Spells s row ts → Spells s (row ▹ word p x) (ts ++ token p x ∷ [])
-    a_reserved_word : {s : Setting} {row : Row} {p : Place} {x : Lexeme} {ts : List Token} (n : List ℕ) → IsTrue (is_free x) → Spells s row ts → Spells s (row ▹ word p x) (ts ++ token p (reserved n x) ∷ [])
-    an_expression : {s : Setting} {row : Row} {e : Tree} {m : Mark} {ts us : List Token} (p : Place) → Spells s row ts → Reads (inside s) 22 e us → Spells s (row ▹ upto e m) (ts ++ (us ++ token p (mark m) ∷ []))
-    an_unquoted : {s : Setting} {row : Row} {e : Tree} {m : Mark} {ts us : List Token} (p : Place) → Spells s row ts → Reads (inside s) 22 e us → IsTrue (not (is_string_alone us)) → Spells s (row ▹ unquoted e m) (ts ++ (us ++ token p (mark m) ∷ []))
+    a_reserved_word : {s : Setting} {row : Row} {p : Place} {x : Lexeme} {ts : List Token} (n : List ℕ) → IsTrue (is_free x) → Spells s row ts →
+        Spells s (row ▹ word p x) (ts ++ token p (reserved n x) ∷ [])
+    an_expression : {s : Setting} {row : Row} {e : Tree} {m : Mark} {ts us : List Token} (p : Place) → Spells s row ts → Reads (inside s) 22 e us →
+        Spells s (row ▹ upto e m) (ts ++ (us ++ token p (mark m) ∷ []))
+    an_unquoted : {s : Setting} {row : Row} {e : Tree} {m : Mark} {ts us : List Token} (p : Place) → Spells s row ts → Reads (inside s) 22 e us →
+        IsTrue (not (is_string_alone us)) → Spells s (row ▹ unquoted e m) (ts ++ (us ++ token p (mark m) ∷ []))
 
 -- these tokens are an expression, with this tree
 abbrev pub IsExpression : Setting → Tree → List Token → Type 0

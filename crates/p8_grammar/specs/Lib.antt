@@ -3,10 +3,9 @@ pub mod Lexemes
 pub mod Grammar
 pub mod Heights
 pub mod Proper
-pub mod Reading
--- internal: the reader of the proofs and the code.
+pub mod Views
+-- internal: the reader of the proofs.
 pub mod Machine
 pub mod Least
-pub mod Views
-pub mod Endings
-pub mod Levels
+pub mod Outcomes
+pub mod Growing

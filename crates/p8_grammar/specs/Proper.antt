@@ -3,8 +3,10 @@
 use Rattle.std.specs.Prelude.{ℕ, ◌^◌, ◌<◌, Bool, true, false, IsTrue, List, [], ◌∷◌, All}
 use Rattle.p8_tree.specs.Names.{IsName, IsWord, IsQuoted}
 use Rattle.p8_tree.specs.Expressions.{Tree, node}
-use Rattle.p8_tree.specs.Proper.{IsDoneForm, gives_no_value, is_one_of, IfThere, is_unary, is_binary, is_change, is_look, is_value, gives_value, is_size, is_written_register, is_register}
-use Rattle.p8_grammar.specs.Lexemes.{Access, memory, pins, input_pins, input, assembly, Lexeme, number, name, string, prefix_word, infix_word, sign, assigns, changes, size, register, look, value, built_in, command, reserved, Token, token}
+use Rattle.p8_tree.specs.Proper.{IsDoneForm, gives_no_value, is_one_of, IfThere, is_unary, is_binary, is_change, is_look, is_value, gives_value}
+use Rattle.p8_tree.specs.Proper.{is_size, is_written_register, is_register}
+use Rattle.p8_grammar.specs.Lexemes.{Access, memory, pins, input_pins, input, assembly, Lexeme, number, name, string, prefix_word, infix_word, sign}
+use Rattle.p8_grammar.specs.Lexemes.{assigns, changes, size, register, look, value, built_in, command, reserved, Token, token}
 
 -- whether a register of this address is one of which this may be done
 abbrev pub is_register_for : Access → ℕ → Bool

@@ -6,8 +6,6 @@ ghost use Rattle.p8_grammar.specs.Lexemes.{Setting, in_action, is_value, is_dat,
 ghost use Rattle.p8_grammar.specs.Grammar.{IsExpression, IsFront, IsLongestFront, OneTree};
 ghost use Rattle.p8_grammar.specs.Heights.{height, IsTooHigh};
 ghost use Rattle.p8_grammar.specs.Proper.{AreProper, IsProperAction};
-ghost use Rattle.p8_grammar.specs.Reading.{HasTaken};
-ghost use Rattle.p8_grammar.specs.declared.reader.Reader.{Reader};
 
 /// Tokens spell at most one tree: the function does nothing, and its contract is the law.
 pub fn one_tree()
@@ -23,11 +21,6 @@ pub fn fronts_begin_fronts()
 /// Tokens have one longest run that begins an expression.
 pub fn one_longest_front()
     ensures { (s : Setting) (ts : List Token) (n m : ℕ) → IsLongestFront s ts n → IsLongestFront s ts m → n ≡ m }
-{}
-
-/// What a reader has taken begins an expression.
-pub fn taken_is_front()
-    ensures { (s : Setting) (ts : List Token) (reader : Reader) → HasTaken s ts reader → IsFront s ts }
 {}
 
 /// An expression is higher than n exactly where each expression that begins with it is.

@@ -1,9 +1,7 @@
 // What a token is to an expression.
-ghost use Rattle.std.specs.Prelude.{◌≡◌, ◌↔◌, IsTrue};
-ghost use Rattle.p8_grammar.specs.Lexemes.{inside, behind, is_value, allows_index, is_dat, is_written, has_bits, is_in, is_free, equal};
-ghost use Rattle.p8_grammar.specs.Views.{setting_of, access_of, mark_of, term_of};
-
-use p8_tree::Text;
+ghost use Rattle.std.specs.Prelude.{◌≡◌};
+ghost use Rattle.p8_grammar.specs.Lexemes.{inside, behind, is_value, allows_index, is_dat, is_written, has_bits, is_in};
+ghost use Rattle.p8_grammar.specs.Views.{setting_of, access_of};
 
 /// Where an expression stands.
 #[derive(Clone, Copy)]
@@ -140,51 +138,39 @@ pub enum Punctuation {
     Equal,
 }
 
-impl Punctuation {
-    /// Whether it is `=`.
-    pub fn is_equal(self) -> bool
-        ensures { IsTrue result ↔ (mark_of self ≡ equal) }
-    {
-        match self {
-            Punctuation::Equal => true,
-            _ => false,
-        }
-    }
-}
-
-/// An operator but for those that stand beside a variable.
+/// What a token is to an expression, but for the characters of a name and of a string. Numbers are its rank and its
+/// bytecode, its effect bytes, a size in bytes or a register's address.
+///
+/// A reserved word is what it means: behind the colon of a local label of DAT it is a name.
 #[derive(Clone, Copy)]
-pub enum Operator {
-    /// Before its operand: its rank and its bytecode.
+pub enum Lexeme {
+    Number(u32),
+    Name,
+    MethodResult,
+    Str,
+    Mark(Punctuation),
+    /// An operator before its operand: its rank and its bytecode.
     Prefix(u8, u8),
-    /// Between its operands: its rank and its bytecode.
+    /// An operator between its operands: its rank and its bytecode.
     Infix(u8, u8),
     /// `+` or `-`: its bytecode before an operand, and between operands.
     Sign(u8, u8),
     /// `:=`, or a binary operator with `=`.
     Assigns(Option<u8>),
-    /// `@@`
-    ObjectAddress,
-}
-
-/// A word that an operand has. Numbers after it are its bytecode or effect byte, a size in bytes
-/// or a register's address.
-#[derive(Drop)]
-pub enum Term {
-    Number(u32),
-    /// A name, in capitals.
-    Name(Text),
-    MethodResult,
-    /// A string's characters.
-    Str(Text),
     /// `++`, `--`, `~` or `~~`: its effect byte before a variable, and after it.
     Changes(u8, u8),
+    /// `@`
     Address,
+    /// `@@`
+    ObjectAddress,
+    /// `BYTE`, `WORD` or `LONG`.
     Size(u8),
     Register(u16, Access),
+    /// `$`
     Here,
     StringWord,
     ConstantWord,
+    /// A `LOOK` function.
     Look(u8),
     /// `COGID`, `CLKFREQ` or `CLKMODE`.
     Value(u8),
@@ -194,39 +180,4 @@ pub enum Term {
     Command(u8),
     /// What stands in no expression and no action.
     Other,
-}
-
-impl Term {
-    /// Whether a reserved word may be it: no name, number or string is one.
-    pub fn is_free(&self) -> bool
-        ensures { result ≡ is_free (term_of self.now) }
-    {
-        match self {
-            Term::Name(_) => false,
-            Term::Number(_) => false,
-            Term::Str(_) => false,
-            _ => true,
-        }
-    }
-}
-
-/// What a reserved word is to an expression.
-#[derive(Drop)]
-pub enum Reserved {
-    /// An operator before its operand: its rank and its bytecode.
-    Prefix(u8, u8),
-    /// An operator between its operands: its rank and its bytecode.
-    Infix(u8, u8),
-    /// A word of an operand, or what stands in no expression.
-    Term(Term),
-}
-
-/// What a token is to an expression.
-#[derive(Drop)]
-pub enum Lexeme {
-    Mark(Punctuation),
-    Operator(Operator),
-    Term(Term),
-    /// A reserved word, with its characters in capitals: behind the colon of a local label of DAT it is a name.
-    Reserved(Text, Reserved),
 }

@@ -3,15 +3,16 @@
 use Rattle.std.proofs.Common.{◌≡◌, ℕ, ◌<◌, length, List, [], ◌∷◌, ◌++◌, Option, Some, None, Bool, true, false, refl, sym, ap, ◌∙◌, subst, arith}
 use Rattle.std.specs.Prelude.{IsTrue, if◌then◌else◌, option_and_then}
 use Rattle.p8_tree.specs.declared.places.Place.{Place}
-use Rattle.p8_tree.specs.Expressions.{Tree, Variable}
+use Rattle.p8_tree.specs.Expressions.{Tree, Variable, Part, Memory, Register, no_index as without_index, whole as whole_register}
 use Rattle.p8_lexer.specs.declared.word.Word.{Word}
 use Rattle.p8_lexer.specs.declared.word.Word.TheVariants as word
-use Rattle.p8_grammar.specs.Lexemes.{Setting, in_method, in_declaration, in_dat, in_data_item, in_action, is_value, Lexeme, left_bracket, right_bracket, right_parenthesis, comma, colon, dot_dot, hash, string, mark, size, other, Token, token}
-use Rattle.p8_grammar.specs.Grammar.{IsExpression, IsFront}
-use Rattle.p8_grammar.specs.Machine.{Shape, Next, if_value, fresh, using, string_read, strings_read, choices_read, tree, whole_in, on_bracket, on_close, on_colon, on_comma, Frame, wrap, reduce, State, state, joined, fill_hole, go_on, beyond, step, walk, all_of, accepted, accept, start, target, join}
+use Rattle.p8_grammar.specs.Lexemes.{Setting, in_method, in_declaration, in_dat, in_data_item, in_action, is_value, Lexeme, left_bracket, right_bracket, right_parenthesis, comma, colon, dot_dot, string, mark, size, Token, token}
+use Rattle.p8_grammar.specs.Grammar.{calls, IsExpression, IsFront}
+use Rattle.p8_grammar.specs.Machine.{Shape, using, part, headed, tree, whole_in, bracketed, grow, Frame, wrap, reduce, State, state, becoming, fill_hole, go_on, beyond, step, walk, all_of, accepted, accept, start}
 use Rattle.p8_grammar.proofs.Walks.{walk_append, wraps}
 use Rattle.p8_grammar.proofs.FormsRead.{whole_tree}
-use Rattle.p8_grammar.proofs.Complete.{complete, past_label}
+use Rattle.p8_grammar.proofs.Steps.{whole_step, closer_step, other_stops, reserved_stops}
+use Rattle.p8_grammar.proofs.Complete.{complete}
 use Rattle.p8_grammar.proofs.Sound.{Pending, nothing_pending, after_operator, in_hole, in_first, start_stands, walk_stands}
 use Rattle.p8_grammar.proofs.Live.{dead}
 use Rattle.p8_lines.specs.declared.sign.Sign.{Sign}
@@ -67,17 +68,10 @@ states_before : (q : line_state.LineState) → IsTrue (good_before (choices q).p
 states_before states.End = refl
 states_before q = refl
 
-closed : (s : Setting) → if_value s None ≡ None
-closed s = go (is_value s) None refl
-  where
-    go : (b : Bool) (o : Option Next) → o ≡ None → (if b then o else None) ≡ None
-    go true o h = h
-    go false o h = refl
-
 long_fails : (s : Setting) (p : Place) (cs : List ℕ) → 1 < length cs → step (start s) (token p (string cs)) ≡ None
 long_fails s p [] n = absurd (omega arith)
 long_fails s p (c ∷ []) n = absurd (omega arith)
-long_fails s p (c ∷ d ∷ cs) n = ap (λ o. go_on o s fresh [] p (string (c ∷ d ∷ cs))) (closed s)
+long_fails s p (c ∷ d ∷ cs) n = refl
 
 size_fails : (s : Setting) (p : Place) (z : ℕ) → IsTrue (is_item s) → step (start s) (token p (size z)) ≡ None
 size_fails in_data_item p z h = refl
@@ -100,7 +94,7 @@ word_fails s t word.LineEnd e h = other_fails s t (line_end_lexeme t e)
 word_fails s t word.While e h = other_fails s t (while_lexeme t e)
 word_fails s t word.Until e h = other_fails s t (until_lexeme t e)
 word_fails s t word.Other e h = other_fails s t (other_lexeme t e)
-word_fails s t word.Hash e h = ap (first_step s t) (hash_lexeme t e) ∙ ap (λ o. go_on o s fresh [] t.place (mark hash)) (closed s)
+word_fails s t word.Hash e h = ap (first_step s t) (hash_lexeme t e)
 word_fails s t word.If e h = other_fails s t (if_lexeme t e)
 word_fails s t word.Ifnot e h = other_fails s t (ifnot_lexeme t e)
 word_fails s t word.Case e h = other_fails s t (case_lexeme t e)
@@ -168,44 +162,33 @@ data Ends (s : Setting) : Lexeme → Type 0 where
   by_right_parenthesis : Ends s (mark right_parenthesis)
   by_left_bracket : IsTrue (is_item s) → Ends s (mark left_bracket)
 
-no_colon : (s : Setting) (p : Place) (sh : Shape) (top : Tree) → tree sh ≡ Some top → on_colon s p sh ≡ None
-no_colon s p (using u) top h = absurd cc
-no_colon s p sh top h = refl
-
-no_close : (sh : Shape) (top : Tree) → tree sh ≡ Some top → on_close sh ≡ None
-no_close (string_read q r t) top h = absurd cc
-no_close (strings_read q es) top h = absurd cc
-no_close (choices_read q j x xs) top h = absurd cc
-no_close sh top h = refl
-
-no_comma : (sh : Shape) (top : Tree) → tree sh ≡ Some top → on_comma sh ≡ None
-no_comma (string_read q r t) top h = absurd cc
-no_comma (strings_read q es) top h = absurd cc
-no_comma (choices_read q j x xs) top h = absurd cc
-no_comma sh top h = refl
-
-no_index : (s : Setting) (sh : Shape) → IsTrue (is_item s) → on_bracket s sh ≡ None
-no_index in_data_item sh h = go sh
+no_index : (s : Setting) (sh : Shape) (p : Place) → IsTrue (is_item s) → (top : Tree) → tree sh ≡ Some top → grow s sh p (mark left_bracket) ≡ None
+no_index s (using u) p i top h = absurd cc
+no_index in_data_item (part u v x) p i top h = bracket v
   where
-    go : (sh : Shape) → on_bracket in_data_item sh ≡ None
-    go (using u) = refl
-    go sh = refl
-no_index s sh h = absurd cc
+    bracket : (v : Variable) → bracketed in_data_item u v x ≡ None
+    bracket (Part n z without_index q) = refl
+    bracket (Memory z e without_index q) = refl
+    bracket (Register a whole_register q) = refl
+    bracket v = refl
+no_index in_data_item (headed (calls true None without_index n r q)) p i top h = refl
+no_index in_data_item sh p i top h = refl
+no_index s sh p i top h = absurd cc
 
 -- after a whole expression the reader has no step
 no_step : (s : Setting) (sh : Shape) (k : List Frame) (top e : Tree) (p : Place) (x : Lexeme) → tree sh ≡ Some top → reduce 22 top k ≡ (e, []) → Ends s x → step (state s sh k) (token p x) ≡ None
-no_step s sh k top e p x h r (by_other the_word) = ap (λ o. beyond o s sh k p other) h
-no_step s sh k top e p x h r (by_other (the_reserved n)) = past_label s sh k p n other top refl h ∙ no_join (target sh)
-  where
-    no_join : (v : Option Variable) → join s v None p top k ≡ None
-    no_join None = refl
-    no_join (Some v) = refl
-no_step s sh k top e p x h r by_comma = ap (λ o. go_on o s sh k p (mark comma)) (no_comma sh top h) ∙ ap (λ o. beyond o s sh k p (mark comma)) h ∙ ap (λ q. fill_hole comma q.0 q.1) r
-no_step s sh k top e p x h r by_range = ap (λ o. beyond o s sh k p (mark dot_dot)) h ∙ ap (λ q. fill_hole dot_dot q.0 q.1) r
-no_step s sh k top e p x h r by_right_bracket = ap (λ o. beyond o s sh k p (mark right_bracket)) h ∙ ap (λ q. fill_hole right_bracket q.0 q.1) r
-no_step s sh k top e p x h r by_colon = ap (λ o. go_on o s sh k p (mark colon)) (no_colon s p sh top h) ∙ ap (λ o. beyond o s sh k p (mark colon)) h ∙ ap (λ q. fill_hole colon q.0 q.1) r
-no_step s sh k top e p x h r by_right_parenthesis = ap (λ o. go_on o s sh k p (mark right_parenthesis)) (no_close sh top h) ∙ ap (λ o. beyond o s sh k p (mark right_parenthesis)) h ∙ ap (λ q. fill_hole right_parenthesis q.0 q.1) r
-no_step s sh k top e p x h r (by_left_bracket i) = ap (λ o. go_on o s sh k p (mark left_bracket)) (no_index s sh i) ∙ ap (λ o. beyond o s sh k p (mark left_bracket)) h ∙ ap (λ q. fill_hole left_bracket q.0 q.1) r
+no_step s sh k top e p x h r (by_other the_word) = other_stops (state s sh k) p
+no_step s sh k top e p x h r (by_other (the_reserved n)) = reserved_stops n p top s sh k h
+no_step s sh k top e p x h r by_comma = closer_step s sh k p comma top h refl ∙ ap (λ q. fill_hole comma q.0 q.1) r
+no_step s sh k top e p x h r by_range = closer_step s sh k p dot_dot top h refl ∙ ap (λ q. fill_hole dot_dot q.0 q.1) r
+no_step s sh k top e p x h r by_right_bracket = closer_step s sh k p right_bracket top h refl ∙ ap (λ q. fill_hole right_bracket q.0 q.1) r
+no_step s sh k top e p x h r by_colon = closer_step s sh k p colon top h refl ∙ ap (λ q. fill_hole colon q.0 q.1) r
+no_step s sh k top e p x h r by_right_parenthesis = closer_step s sh k p right_parenthesis top h refl ∙ ap (λ q. fill_hole right_parenthesis q.0 q.1) r
+no_step s sh k top e p x h r (by_left_bracket i) =
+    whole_step s sh k p (mark left_bracket) top h
+    ∙ ap (λ n. go_on n s sh k p (mark left_bracket)) (no_index s sh p i top h)
+    ∙ ap (λ o. beyond o s sh k p (mark left_bracket)) h
+    ∙ ap (λ q. fill_hole left_bracket q.0 q.1) r
 
 record Whole (s : Setting) (st : State) (e : Tree) : Type 0 where
   setting : Setting
@@ -217,7 +200,7 @@ record Whole (s : Setting) (st : State) (e : Tree) : Type 0 where
   ended : reduce 22 top frames ≡ (e, [])
 
 whole : (s : Setting) (st : State) (e : Tree) → accept st ≡ Some e → Whole s st e
-whole s (joined s' r c p v k) e h = absurd cc
+whole s (becoming s' c p v k) e h = absurd cc
 whole s (state s' sh k) e h = go (whole_in s' sh) refl h
   where
     ends_so : (q : Tree × List Frame) → all_of q.0 q.1 ≡ Some e → q ≡ (e, [])
@@ -231,7 +214,7 @@ whole s (state s' sh k) e h = go (whole_in s' sh) refl h
 -- where nothing is open after a value, the setting is the first one
 same_setting : {s s' : Setting} {k : List Frame} {us : List Token} → IsTrue (is_value s) → Pending s s' k us → (top e : Tree) → reduce 22 top k ≡ (e, []) → s' ≡ s
 same_setting d nothing_pending top e h = refl
-same_setting {s = s} {s' = s'} d (after_operator {s = s1} {f = f} {k = k} vs l pending value same kept alike le low bar w reads) top e h =
+same_setting {s = s} {s' = s'} d (after_operator {s = s1} {f = f} {k = k} vs l pending value same kept alike le low bar w may reads) top e h =
     let below : s1 ≡ s = same_setting d pending (wrap f top) e (sym (wraps 22 top f k bar) ∙ h) in
     sym (kept (subst (λ s. IsTrue (is_value s)) (sym below) d)) ∙ below
 same_setting d (in_hole pending stands spells apart) top e h = let y = ap (λ q. q.1) h in absurd cc

@@ -13,4 +13,5 @@ pub mod Texts
 pub mod Stops
 pub mod LineEnds
 pub mod Targets
+pub mod Pieces
 pub mod Steps

@@ -35,7 +35,7 @@ use Rattle.p8_lines.proofs.Settings.{behind_good}
 use Rattle.p8_lines.proofs.Ways.{begins_more, Step, token, phrase, Way, none, more}
 use Rattle.p8_lines.proofs.Begun.{not_nothing, nothing_begins, nothing_high, stays_high, not_high, front_with}
 use Rattle.p8_lines.proofs.Rows.{grouped, leads_way, row_way, at_once, front_begins, completed, none_there, limit_positive}
-use Rattle.p8_expr.proofs.Runs.{none_within}
+use Rattle.p8_expr.proofs.Places.{none_within}
 use Rattle.p8_lines.proofs.Texts.{first_at, is_at, is_end, last_is, text_end_ends, Run, run_of}
 
 -- no step from a state leads over tokens that begin so

@@ -1,29 +1,26 @@
 -- Where tokens lead, as the code looks it up.
 use Rattle.std.proofs.Common.{◌≡◌, ◌≢◌, ◌⊎◌, inl, inr, ℕ, zero, suc, ◌+◌, ◌-◌, ◌<◌, ◌≤◌, Bool, true, false, length, drop, get_or, List, [], ◌∷◌, Option, Some, None, refl, sym, ap, ◌∙◌, subst, arith, add-one, drop-cons}
 use Rattle.std.specs.Prelude.{map, slice_get, take, if◌then◌else◌, option_map, unwrap_or, MatchOption}
-use Rattle.p8_tree.specs.declared.places.Place.{Place}
 use Rattle.p8_lexer.specs.declared.word.Word.{Word}
 use Rattle.p8_lexer.specs.declared.word.Word.TheVariants as word
 use Rattle.p8_lexer.specs.declared.token.Token as lexer_token
 use Rattle.p8_lexer.specs.declared.token.TokenKind.{TokenKind}
 use Rattle.p8_lexer.specs.declared.token.TokenKind.TheVariants as kind
 use Rattle.p8_lexer.specs.Words.{capital, word_of_kind, word_of}
-use Rattle.p8_expr.specs.Words.{lexeme_of_word, lexeme_by_word, reserved_as, lexeme_by_kind, lexeme_of_token}
-use Rattle.p8_expr.specs.Cursors.{Spot, token_there, word_there, end_place, place_there}
-use Rattle.p8_expr.proofs.Runs.{none_within}
+use Rattle.p8_expr.specs.Words.{lexeme_of_word, lexeme_by_word, reserved_as, lexeme_by_kind}
+use Rattle.p8_expr.specs.Cursors.{Spot, word_there, end_place, place_there}
+use Rattle.p8_expr.proofs.Places.{none_within}
 use Rattle.p8_lines.specs.declared.arrow.Arrow.{Arrow}
 use Rattle.p8_lines.specs.declared.state.LineState.{LineState}
 use Rattle.p8_lines.specs.Signs.{Matches}
 use Rattle.p8_lines.specs.Tokens as line_tokens
-use Rattle.p8_lines.specs.Tokens.{LineToken, lexeme, string_length, piece, piece_from, label_piece, line_token, text_end, tokens_from}
+use Rattle.p8_lines.specs.Tokens.{LineToken, lexeme, string_length, line_token, text_end, tokens_from}
 use Rattle.p8_lines.specs.Diagram.{Phrase, choices, behind_in, behind_name_in}
 use Rattle.p8_lines.specs.Stopping.{token_at, next, run}
-use Rattle.p8_lexer.specs.Pieces as pieces
-use Rattle.p8_lexer.specs.Pieces.{Piece}
-use Rattle.p8_grammar.specs.Lexemes.{Lexeme, method_result, name_in}
+use Rattle.p8_grammar.specs.Lexemes.{Lexeme, method_result}
 use Rattle.p8_lines.specs.Lines.{IsOn, Follows, here, further, is_name_word, is_name, behind}
 use Rattle.p8_lines.proofs.Lexemes.{IsLike, the_word, the_reserved, name_lexeme, result_lexeme}
-use Rattle.p8_lines.proofs.Texts.{last_is, first_at, is_at, is_end}
+use Rattle.p8_lines.proofs.Texts.{last_is, first_at}
 
 -- the word and the place at a spot, as a line's token has them
 pub word_here : (s : Spot) → word_there s ≡ line_tokens.word (next s)
@@ -137,34 +134,6 @@ no_follow l t o m e = subst (λ o. MatchOption o ((r : LineState) → ¬ Follows
 
 pub follow : (l : List Arrow) (t : LineToken) (o : Option LineState) (r : LineState) → MatchOption o ((r : LineState) → ¬ Follows l t r) (Follows l t) → o ≡ Some r → Follows l t r
 follow l t o r m e = subst (λ o. MatchOption o ((r : LineState) → ¬ Follows l t r) (Follows l t)) e m
-
--- the piece of a token
-pub piece_there : (s : Spot) (t : lexer_token.Token) (bytes : List ℕ) (x : Lexeme) (w : Word) (p : Place) (y : Piece) → token_there s ≡ Some t → bytes ≡ s.bytes → y ≡ piece_from x w p → x ≡ lexeme_of_token bytes t → w ≡ word_there s → p ≡ place_there s → y ≡ piece (next s)
-unfolding lexeme_of_token
-piece_there s t bytes x w p y h same e a b d =
-    let is = is_at s.bytes s.tokens s.at t h in
-    let lexeme_is = a ∙ ap (λ bytes. lexeme_of_token bytes t) same ∙ ap lexeme (sym is) in
-    e ∙ (λ i. piece_from (lexeme_is i) ((b ∙ word_here s) i) ((d ∙ place_here s) i))
-
--- the piece of a local label's name
-pub label_there : (s : Spot) (t : lexer_token.Token) (bytes : List ℕ) (x : Lexeme) (n : List ℕ) (p : Place) → token_there s ≡ Some t → bytes ≡ s.bytes → n ≡ unwrap_or (name_in x) [] → x ≡ lexeme_of_token bytes t → p ≡ place_there s → pieces.label n p ≡ label_piece (next s)
-unfolding lexeme_of_token
-label_there s t bytes x n p h same e a d =
-    let is = is_at s.bytes s.tokens s.at t h in
-    let lexeme_is = a ∙ ap (λ bytes. lexeme_of_token bytes t) same ∙ ap lexeme (sym is) in
-    λ i. pieces.label ((e ∙ ap (λ x. unwrap_or (name_in x) []) lexeme_is) i) ((d ∙ place_here s) i)
-
-pub label_end : (s : Spot) (n : List ℕ) (p : Place) → token_there s ≡ None → n ≡ [] → p ≡ place_there s → pieces.label n p ≡ label_piece (next s)
-unfolding lexeme_of_word
-label_end s n p h e d =
-    let is = is_end s.bytes s.tokens s.at h in
-    (λ i. pieces.label (e i) ((d ∙ place_here s ∙ ap (λ t. t.place) is) i)) ∙ ap label_piece (sym is)
-
-pub piece_end : (s : Spot) (p : Place) → token_there s ≡ None → p ≡ place_there s → pieces.word word.LineEnd p ≡ piece (next s)
-unfolding lexeme_of_word
-piece_end s p h d =
-    let is = is_end s.bytes s.tokens s.at h in
-    ap (λ p. pieces.word word.LineEnd p) (d ∙ place_here s ∙ ap (λ t. t.place) is) ∙ ap piece (sym is)
 
 -- the arrows after an expression
 one_token : (bytes : List ℕ) (tokens : List lexer_token.Token) (at n : ℕ) → at ≤ length tokens → n ≡ 1 → run bytes tokens at n ≡ token_at bytes tokens at ∷ []

@@ -1,15 +1,14 @@
 -- The tokens of a text, one after the other, and the longest run of them that begins an expression.
-use Rattle.std.proofs.Common.{◌≡◌, ℕ, zero, suc, ◌+◌, ◌<◌, ◌≤◌, length, take, drop, List, [], ◌∷◌, ◌++◌, Bool, true, false, Option, Some, None, refl, sym, ap, ◌∙◌, subst, arith, add-one}
+use Rattle.std.proofs.Common.{◌≡◌, ℕ, zero, suc, ◌+◌, ◌<◌, ◌≤◌, length, take, drop, List, [], ◌∷◌, ◌++◌, Option, Some, None, refl, sym, ap, ◌∙◌, subst, arith, add-one}
 use Rattle.std.specs.Prelude.{map, slice_get, option_map, option_and_then, unwrap_or, if◌then◌else◌}
 use Rattle.std.proofs.lemmas.Option.{slice_get_within}
 use Rattle.std.proofs.lemmas.List.{take-append-drop, length-map, length-drop}
 use Rattle.p8_tree.specs.declared.places.Place.{Place}
 use Rattle.p8_lexer.specs.declared.token.Token as lexer_token
-use Rattle.p8_grammar.specs.Lexemes.{Setting, is_value, other, Token, token}
+use Rattle.p8_grammar.specs.Lexemes.{Setting, other, Token, token}
 use Rattle.p8_grammar.specs.Grammar.{IsFront, IsLongestFront}
-use Rattle.p8_grammar.specs.Machine.{reading, used, fresh, grow, infix_frame, go_on, beyond, State, state, joined, tree, step, walk, start}
-use Rattle.p8_tree.specs.Expressions.{Tree}
-use Rattle.p8_grammar.proofs.Steps.{other_none}
+use Rattle.p8_grammar.specs.Machine.{State, walk, start}
+use Rattle.p8_grammar.proofs.Steps.{other_stops}
 use Rattle.p8_grammar.proofs.Live.{dead}
 use Rattle.p8_grammar.proofs.Walks.{walk_append}
 use Rattle.p8_expr.specs.Words.{token_of, lexeme_of_token, lexeme_of_word}
@@ -46,24 +45,12 @@ last_is bytes tokens i t h g = go (record { line = 1; column = 1 }) tokens i h g
     go p (x ∷ (y ∷ ys)) (suc i) h g = go x.place (y ∷ ys) i (omega (arith, h)) g
 
 -- what stands in no expression begins and goes on with none
-no_other : (st : State) (p : Place) → step st (token p other) ≡ None
-no_other (joined s r c q v k) p = go (is_value s)
-  where
-    go : (b : Bool) → (if b then go_on (grow s fresh p other) s fresh (infix_frame r c q (used reading v) ∷ k) p other else None) ≡ None
-    go true = refl
-    go false = refl
-no_other (state s sh k) p = go (tree sh)
-  where
-    go : (o : Option Tree) → beyond o s sh k p other ≡ None
-    go None = other_none s sh k p
-    go (Some e) = refl
-
 pub other_ends : (s : Setting) (ts : List Token) (p : Place) → ¬ IsFront s (ts ++ token p other ∷ [])
 other_ends s ts p = dead s (ts ++ token p other ∷ []) (walk_append (start s) ts (token p other ∷ []) ∙ go (walk (start s) ts))
   where
     go : (o : Option State) → option_and_then (λ st. walk st (token p other ∷ [])) o ≡ None
     go None = refl
-    go (Some st) = ap (λ o. option_and_then (λ st. walk st []) o) (no_other st p)
+    go (Some st) = ap (λ o. option_and_then (λ st. walk st []) o) (other_stops st p)
 
 pub text_end_other : (ts : List LineToken) → lexeme (text_end ts) ≡ other
 unfolding lexeme_of_word

@@ -1,10 +1,9 @@
 // Reading a line.
 ghost use Rattle.std.specs.Prelude.{◌≡◌, ◌≢◌, ℕ, ◌+◌, ◌-◌, ◌<◌, ◌≤◌, ◌++◌, ◌∷◌, [], IfOk, IfErr, MatchOption, IsTrue, ◌↔◌, length, Some};
-ghost use Rattle.std.specs.Prelude.{option_map, unwrap_or};
+ghost use Rattle.std.specs.Prelude.{option_map};
 ghost use Rattle.p8_tree.specs.Views.{tree_of};
 ghost use Rattle.p8_tree.specs.Faults.{IfRefused};
-ghost use Rattle.p8_grammar.specs.Lexemes.{name_in};
-ghost use Rattle.p8_grammar.specs.Views.{setting_of, lexeme_of};
+ghost use Rattle.p8_grammar.specs.Views.{setting_of};
 ghost use Rattle.p8_expr.specs.Parsing.{tree, Parses};
 ghost use Rattle.p8_expr.specs.Cursors.{moved};
 ghost use Rattle.p8_lexer.specs.Pieces.{piece_of, pieces_of};
@@ -12,16 +11,16 @@ ghost use Rattle.p8_lines.specs.declared.state.LineState as line_state;
 ghost use Rattle.p8_lines.specs.declared.state.LineState.TheVariants as state_case;
 ghost use Rattle.p8_lines.specs.Diagram.{Phrase, choices};
 ghost use Rattle.p8_lines.specs.Tokens as line_tokens;
-ghost use Rattle.p8_lines.specs.Tokens.{LineToken, string_length, piece, piece_from, label_piece, left};
+ghost use Rattle.p8_lines.specs.Tokens.{LineToken, string_length, piece, label_piece, left};
 ghost use Rattle.p8_lines.specs.Lines.{Follows, is_name_word, behind, piece_in, greatest_height, Reads, read, refused, number_of, OneReading};
 ghost use Rattle.p8_lines.specs.Stopping.{next, run, FitsSetting, Stops, Advances};
 
 use crate::arrow::Arrow;
 use crate::state::LineState;
-use p8_expr::{GREATEST_HEIGHT, TokenCursor, lexeme, read_expr, refusal_of};
-use p8_grammar::{Lexeme, Setting, Term};
-use p8_lexer::{Characters, Piece, Word};
-use p8_tree::{Expr, Fault, Place, Refusal, Text};
+use p8_expr::{GREATEST_HEIGHT, TokenCursor, read_expr, refusal_of};
+use p8_grammar::Setting;
+use p8_lexer::{Piece, Word};
+use p8_tree::{Expr, Fault, Refusal, Text};
 use p8_words::{Fail, NoMemory};
 use std::alloc::{AllocError, Global};
 
@@ -180,7 +179,7 @@ fn target(here: &TokenCursor, arrows: &[Arrow]) -> Option<LineState>
         ((r : line_state.LineState) → ¬ Follows arrows.now (next here.now) r)
         (Follows arrows.now (next here.now)) }
 {
-    first_target(arrows, here.word(), length_at(here))
+    first_target(arrows, here.word(), here.quoted_length())
 }
 
 // Where a token with this word, and with so many characters between its quotes, leads.
@@ -197,29 +196,21 @@ fn first_target(arrows: &[Arrow], word: Word, length: usize) -> Option<LineState
     None
 }
 
-// How many characters the next token has between its quotes.
-fn length_at(here: &TokenCursor) -> usize
-    ensures { result ≡ string_length (next here.now) }
-{
-    match here.token() {
-        Some(token) => Characters::of_token(here.bytes(), &token)
-            .len()
-            .saturating_sub(2),
-        None => 0,
-    }
-}
-
 // The piece of the next token, or of the text's end.
 fn piece_at(alloc: Global, here: &TokenCursor) -> Result<Piece, NoMemory>
     ensures { IfOk result (λ p. piece_of p ≡ piece (next here.now)) }
 {
     let place = here.place();
-    match here.token() {
-        Some(token) => {
-            let lexeme = lexeme(alloc, here.bytes(), &token)?;
-            Ok(piece_from(lexeme, here.word(), place))
+    match here.word() {
+        Word::Name => {
+            let name = here.name(alloc)?;
+            Ok(Piece::Name(name, place))
         }
-        None => Ok(Piece::Word(Word::LineEnd, place)),
+        Word::Str => {
+            let text = here.quoted(alloc)?;
+            Ok(Piece::Text(text, place))
+        }
+        word => Ok(Piece::Word(word, place)),
     }
 }
 
@@ -239,40 +230,11 @@ fn label_at(alloc: Global, here: &TokenCursor) -> Result<Piece, NoMemory>
     ensures { IfOk result (λ p. piece_of p ≡ label_piece (next here.now)) }
 {
     let place = here.place();
-    match here.token() {
-        Some(token) => {
-            let name = name_in(alloc, lexeme(alloc, here.bytes(), &token)?);
-            Ok(Piece::Label(name, place))
-        }
-        None => Ok(Piece::Label(Text::from_vec(Vec::new(alloc)), place)),
-    }
-}
-
-// The name that a word is there.
-fn name_in(alloc: Global, lexeme: Lexeme) -> Text
-    ensures { result ≡ unwrap_or (name_in (lexeme_of lexeme)) [] }
-{
-    match lexeme {
-        Lexeme::Term(Term::Name(name)) => name,
-        Lexeme::Reserved(name, word) => {
-            drop(word);
-            name
-        }
-        other => {
-            drop(other);
-            Text::from_vec(Vec::new(alloc))
-        }
-    }
-}
-
-// The piece of a token.
-fn piece_from(lexeme: Lexeme, word: Word, place: Place) -> Piece
-    ensures { piece_of result ≡ piece_from (lexeme_of lexeme) word place }
-{
-    match lexeme {
-        Lexeme::Term(Term::Name(name)) => Piece::Name(name, place),
-        Lexeme::Term(Term::Str(text)) => Piece::Text(text, place),
-        _ => Piece::Word(word, place),
+    if here.is_label() {
+        let name = here.name(alloc)?;
+        Ok(Piece::Label(name, place))
+    } else {
+        Ok(Piece::Label(Text::from_vec(Vec::new(alloc)), place))
     }
 }
 

@@ -13,7 +13,7 @@ use Rattle.p8_grammar.specs.Lexemes as lexemes
 use Rattle.p8_grammar.specs.Lexemes.{Setting, in_method, in_declaration, in_dat, in_data_item, in_action, is_value, allows_index, is_dat, inside, behind, Access, is_written, Mark, left_parenthesis, right_parenthesis, comma, dot_dot, equal, Lexeme, number, string, string_word, mark, infix_word, assigns, changes, plain, Token, token}
 use Rattle.p8_grammar.specs.Grammar.{word, upto, unquoted, Row, begin, ◌▹◌, Variables, named, plain_name, Choices, no_choices, value_choice, range_choice, with_characters, text_choice, quoted, Texts, first_text, first_value, next_text, next_value, Forms, a_number, a_character, the_place, parentheses, variable, name_alone, changed_by, changed_before, changed_after, address_of, plain_call, bare_call, full_call, object_constant, a_value, a_string, one_item, items_text, items_value, a_constant, look_value, look_range, look_text, Prefix, at_object, unary, rank, with_prefix, prefix_of, effect_of, infix_of, is_boolean, Reads, operand, before, between, assigned, assigned_by_word, Spells, nothing, a_word, a_reserved_word, an_expression, an_unquoted}
 use Rattle.p8_grammar.specs.Heights.{height}
-use Rattle.p8_grammar.proofs.FormsStand.{inside_value, behind_value}
+use Rattle.p8_grammar.proofs.Settings.{inside_value, behind_value}
 use Rattle.p8_print.specs.Spelled as spelled
 use Rattle.p8_print.specs.Spelled.{Spelled, reserved}
 use Rattle.p8_print.specs.Tables.{operator_word, change_word, built_word}

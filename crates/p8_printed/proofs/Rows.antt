@@ -8,7 +8,7 @@ use Rattle.p8_tree.specs.Forgetting.{anywhere, tree_anywhere}
 use Rattle.p8_grammar.specs.Lexemes.{Setting, in_method, in_declaration, in_dat, in_data_item, in_action, is_value, allows_index, inside, behind, Mark, left_parenthesis, right_parenthesis, Lexeme, string, mark, string_word, Token, token}
 use Rattle.p8_grammar.specs.Grammar.{word, upto, unquoted, Row, begin, ◌▹◌, Forms, parentheses, Reads, operand, is_string_alone, Spells, nothing, a_word, a_reserved_word, an_expression, an_unquoted}
 use Rattle.p8_grammar.specs.Proper.{lexeme_in}
-use Rattle.p8_grammar.proofs.FormsStand.{behind_value}
+use Rattle.p8_grammar.proofs.Settings.{behind_value}
 use Rattle.p8_lexer.specs.declared.word.Word.TheVariants as word_case
 use Rattle.p8_expr.specs.Words.{lexeme_of_word}
 use Rattle.p8_expr.specs.Sources.{IsLexeme, AreLexemes}

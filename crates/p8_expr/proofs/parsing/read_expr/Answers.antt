@@ -1,78 +1,70 @@
-use Rattle.std.proofs.Common.{◌∙◌, ◌-◌, length, take, sym, ap, arith}
-use Rattle.std.specs.Prelude.{if◌then◌else◌, nat_lt}
+use Rattle.std.proofs.Common.{ℕ, ◌≡◌, sym, ap, ◌∙◌, subst}
 use Rattle.p8_tree.specs.Views.{tree_of}
-use Rattle.p8_tree.specs.declared.refusal.Refusal.TheVariants.{TooNested, Unexpected}
 use Rattle.p8_tree.specs.declared.faults.Fault.{Fault}
-use Rattle.p8_grammar.specs.Heights.{IsTooHigh}
+use Rattle.p8_grammar.specs.Lexemes.{Setting}
 use Rattle.p8_grammar.specs.Views.{setting_of}
 use Rattle.p8_expr.specs.Refusals.{refusal_of}
-use Rattle.p8_expr.specs.Parsing.{tree, refused, whole, unfit, broken_off, tokens_from}
-use Rattle.p8_expr.specs.Cursors.{moved, word_there, place_there}
-use Rattle.p8_expr.proofs.Runs.{refuted, granted, high_ends, ends_so, low_enough, refusal_within, refusal_there, fault_there, fault_next, has_tree, has_none}
+use Rattle.p8_expr.specs.Parsing.{tree, Parses}
+use Rattle.p8_expr.specs.Cursors.{Spot, moved, word_there, place_there}
+use Rattle.p8_expr.specs.declared.reading.Ended.{Ended}
+use Rattle.p8_expr.specs.declared.reading.Ended.TheVariants as ended
+use Rattle.p8_expr.specs.Reading.{IsEnded}
+use Rattle.p8_expr.proofs.Runs.{refusal_there, whole_read}
+use Rattle.p8_expr.proofs.Answered.{high_fault, whole_fault, too_high_fault, broken_fault}
 use Rattle.p8_expr.proofs.parsing.read_expr.Goals as goal
 
-pub returns-then-is_higher_than-clause-refused : goal.returns-then-is_higher_than-clause-refused
-returns-then-is_higher_than-clause-refused c =
+ends : (s : Setting) (limit : ℕ) (x y : Spot) (e : Ended) → x ≡ y → IsEnded s limit x.bytes x.tokens x.at e → IsEnded s limit y.bytes y.tokens y.at e
+ends s limit x y e same h = subst (λ (x : Spot). IsEnded s limit x.bytes x.tokens x.at e) same h
+
+pub returns-in-TooHigh-clause-refused : goal.returns-in-TooHigh-clause-refused
+returns-in-TooHigh-clause-refused c =
     let s = setting_of c.args.setting in
     let old = c.args.here.now in
-    let end = c.longest_run.new.here.at in
-    let ts = take (end - old.at) (tokens_from old.bytes old.tokens old.at) in
-    let read = c.in_ok-reader.ensures.read in (
-      TooNested,
-      old.at,
-      high_ends s c.args.height old.bytes old.tokens old.at end c.in_ok-reader.reader read
-          (granted c.is_higher_than.result (IsTooHigh s c.args.height ts) c.if-is_higher_than.true (c.is_higher_than.ensures s ts read.taken)),
-      fault_there TooNested old c.at.result c.requires.within (ap (λ (f : Fault). f.number) c.at.ensures) (ap (λ (f : Fault). f.place) c.at.ensures ∙ c.place-begin.ensures),
-    )
+    high_fault s c.args.height old.bytes old.tokens old.at c.at.result c.requires.within
+    (ends s c.args.height c.copied.result old ended.TooHigh c.copied.ensures (subst (IsEnded s c.args.height c.copied.result.bytes c.copied.result.tokens c.copied.result.at) c.in-TooHigh.is c.in_ok-read.ensures))
+    (ap (λ (f : Fault). f.number) c.at.ensures) (ap (λ (f : Fault). f.place) c.at.ensures ∙ c.place-begin.ensures)
 
 pub returns-in-Some-clause-refused : goal.returns-in-Some-clause-refused
 returns-in-Some-clause-refused c =
     let s = setting_of c.args.setting in
     let old = c.args.here.now in
-    let end = c.longest_run.new.here.at in
-    let there = moved old end in
-    let same = c.in_ok-reader.ensures.moved in
-    let ts = take (end - old.at) (tokens_from old.bytes old.tokens old.at) in
-    let read = c.in_ok-reader.ensures.read in
-    let low = refuted c.is_higher_than.result (IsTooHigh s c.args.height ts) c.if-is_higher_than.false (c.is_higher_than.ensures s ts read.taken) in
-    let unfit_there = sym (refusal_there s there) ∙ ap (refusal_of s) (sym (c.word.ensures ∙ ap word_there same)) ∙ sym c.refusal_of.ensures ∙ c.in-Some.is in (
-      c.in-Some.refusal,
-      end,
-      ends_so s c.args.height old.bytes old.tokens old.at end c.in_ok-reader.reader (refused c.in-Some.refusal end) read low (unfit low unfit_there),
-      fault_there c.in-Some.refusal there c.at-in-Some.result (refusal_within s old.bytes old.tokens end c.in-Some.refusal unfit_there)
-          (ap (λ (f : Fault). f.number) c.at-in-Some.ensures) (ap (λ (f : Fault). f.place) c.at-in-Some.ensures ∙ c.place.ensures ∙ ap place_there same),
-    )
+    let there = moved old c.in-Whole.end in
+    let same = c.go_to.ensures in
+    whole_fault s c.args.height old.bytes old.tokens old.at c.in-Whole.end c.in-Whole.expr c.in-Some.refusal c.at-in-Some.result
+    (ends s c.args.height c.copied.result old (ended.Whole c.in-Whole.expr c.in-Whole.end) c.copied.ensures (subst (IsEnded s c.args.height c.copied.result.bytes c.copied.result.tokens c.copied.result.at) c.in-Whole.is c.in_ok-read.ensures))
+    (sym (refusal_there s there) ∙ ap (refusal_of s) (sym (c.word.ensures ∙ ap word_there same)) ∙ sym c.refusal_of.ensures ∙ c.in-Some.is)
+    (ap (λ (f : Fault). f.number) c.at-in-Some.ensures) (ap (λ (f : Fault). f.place) c.at-in-Some.ensures ∙ c.place.ensures ∙ ap place_there same)
 
-pub returns-in-Some-2-clause-read : goal.returns-in-Some-2-clause-read
-returns-in-Some-2-clause-read c =
+pub returns-in-None-clause-moved : goal.returns-in-None-clause-moved
+returns-in-None-clause-moved c = c.go_to.ensures ∙ ap (moved c.args.here.now) (sym (ap (λ (s : Spot). s.at) c.go_to.ensures))
+
+pub returns-in-None-clause-read : goal.returns-in-None-clause-read
+returns-in-None-clause-read c =
     let s = setting_of c.args.setting in
     let old = c.args.here.now in
-    let end = c.longest_run.new.here.at in
-    let there = moved old end in
-    let ts = take (end - old.at) (tokens_from old.bytes old.tokens old.at) in
-    let read = c.in_ok-reader.ensures.read in
-    let low = refuted c.is_higher_than.result (IsTooHigh s c.args.height ts) c.if-is_higher_than.false (c.is_higher_than.ensures s ts read.taken) in
-    let is = has_tree s ts c.in_ok-expr.field-0 c.in-Some-2.expr c.in-Some-2.is (c.in_ok-expr.ensures s ts read.taken) in
-    let fits = sym (refusal_there s there) ∙ ap (refusal_of s) (sym (c.word.ensures ∙ ap word_there c.in_ok-reader.ensures.moved)) ∙ sym c.refusal_of.ensures ∙ c.in_default.is in
-    ends_so s c.args.height old.bytes old.tokens old.at end c.in_ok-reader.reader (tree (tree_of c.in-Some-2.expr) end) read low
-    (whole is (low_enough s c.args.height ts (tree_of c.in-Some-2.expr) is low) fits)
+    let there = moved old c.in-Whole.end in
+    let same = c.go_to.ensures in
+    subst (λ n. Parses s c.args.height old.bytes old.tokens old.at (tree (tree_of c.in-Whole.expr) n)) (sym (ap (λ (s : Spot). s.at) same))
+    (whole_read s c.args.height old.bytes old.tokens old.at c.in-Whole.end c.in-Whole.expr
+    (ends s c.args.height c.copied.result old (ended.Whole c.in-Whole.expr c.in-Whole.end) c.copied.ensures (subst (IsEnded s c.args.height c.copied.result.bytes c.copied.result.tokens c.copied.result.at) c.in-Whole.is c.in_ok-read.ensures))
+    (sym (refusal_there s there) ∙ ap (refusal_of s) (sym (c.word.ensures ∙ ap word_there same)) ∙ sym c.refusal_of.ensures ∙ c.in-None.is))
 
-pub returns-in-None-clause-refused : goal.returns-in-None-clause-refused
-returns-in-None-clause-refused c =
+pub returns-then-least-height-clause-refused : goal.returns-then-least-height-clause-refused
+returns-then-least-height-clause-refused c =
     let s = setting_of c.args.setting in
     let old = c.args.here.now in
-    let end = c.longest_run.new.here.at in
-    let there = moved old end in
-    let same = c.in_ok-reader.ensures.moved in
-    let ts = take (end - old.at) (tokens_from old.bytes old.tokens old.at) in
-    let read = c.in_ok-reader.ensures.read in
-    let low = refuted c.is_higher_than.result (IsTooHigh s c.args.height ts) c.if-is_higher_than.false (c.is_higher_than.ensures s ts read.taken) in
-    let fits = sym (refusal_there s there) ∙ ap (refusal_of s) (sym (c.word.ensures ∙ ap word_there same)) ∙ sym c.refusal_of.ensures ∙ c.in_default.is in
-    let place = if nat_lt end (length old.tokens) then end else end - 1 in (
-      Unexpected,
-      place,
-      ends_so s c.args.height old.bytes old.tokens old.at end c.in_ok-reader.reader (refused Unexpected place) read low
-          (broken_off low fits (has_none s ts c.in_ok-expr.field-0 c.in-None.is (c.in_ok-expr.ensures s ts read.taken))),
-      fault_next Unexpected there c.at-in-None.result (let lt = c.requires.within in omega (arith, lt)) read.within
-          (ap (λ (f : Fault). f.number) c.at-in-None.ensures) (ap (λ (f : Fault). f.place) c.at-in-None.ensures ∙ c.place-in-None.ensures ∙ ap place_there same),
-    )
+    too_high_fault s c.args.height old.bytes old.tokens old.at c.in-Broken.end c.in-Broken.least c.at-then-least-height.result c.requires.within
+    (ends s c.args.height c.copied.result old (ended.Broken c.in-Broken.end c.in-Broken.least) c.copied.ensures (subst (IsEnded s c.args.height c.copied.result.bytes c.copied.result.tokens c.copied.result.at) c.in-Broken.is c.in_ok-read.ensures)) c.if-least-height.true
+    (ap (λ (f : Fault). f.number) c.at-then-least-height.ensures) (ap (λ (f : Fault). f.place) c.at-then-least-height.ensures ∙ c.place-begin.ensures)
+
+pub returns-else-least-height-clause-refused : goal.returns-else-least-height-clause-refused
+returns-else-least-height-clause-refused c =
+    let s = setting_of c.args.setting in
+    let old = c.args.here.now in
+    let there = moved old c.in-Broken.end in
+    let same = c.go_to-in-Broken.ensures in
+    broken_fault s c.args.height old.bytes old.tokens old.at c.in-Broken.end c.in-Broken.least c.refusal_of-in-Broken.result c.unwrap_or-refusal.result
+    c.at-in-Broken.result c.requires.within c.requires.limit
+    (ends s c.args.height c.copied.result old (ended.Broken c.in-Broken.end c.in-Broken.least) c.copied.ensures (subst (IsEnded s c.args.height c.copied.result.bytes c.copied.result.tokens c.copied.result.at) c.in-Broken.is c.in_ok-read.ensures)) c.if-least-height.false
+    (c.refusal_of-in-Broken.ensures ∙ ap (refusal_of s) (c.word-in-Broken.ensures ∙ ap word_there same) ∙ refusal_there s there) c.unwrap_or-refusal.ensures
+    (ap (λ (f : Fault). f.number) c.at-in-Broken.ensures) (ap (λ (f : Fault). f.place) c.at-in-Broken.ensures ∙ c.place-in-Broken.ensures ∙ ap place_there same)
