@@ -8,6 +8,7 @@ mod Saving
 mod SaidRuns
 mod Reading
 mod Lining
+mod DataLining
 mod Sourcing
 mod SaidWords
 mod SaidCutting
@@ -23,6 +24,7 @@ mod Marks
 mod OneRow
 mod OneDeclaration
 mod OneStatement
+mod DataTable
 mod OneDatum
 mod Worth
 mod Naming

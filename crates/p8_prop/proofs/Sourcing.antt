@@ -21,7 +21,8 @@ use Rattle.p8_objects.specs.Sources as within
 use Rattle.p8_prop.proofs.Reading as said
 use Rattle.p8_prop.proofs.Reading.{is_known, data_of_row}
 use Rattle.p8_prop.proofs.SaidCutting.{tokens-to}
-use Rattle.p8_prop.proofs.Lining.{outer, starts, is_end, declared-line, head-line, text-line, data-head-line, data-line, head-known, line-known}
+use Rattle.p8_prop.proofs.Lining.{outer, starts, is_end, declared-line, head-line, text-line}
+use Rattle.p8_prop.proofs.DataLining.{data-head-line, data-line, head-known, line-known}
 
 -- ---- lines
 
