@@ -2,7 +2,7 @@
 use Rattle.std.proofs.Common.{◌≡◌, ℕ, zero, suc, ◌+◌, ◌<◌, ◌≤◌, List, [], ◌∷◌, ◌++◌, length, true, false, refl, sym, ap, ◌∙◌, subst, append_assoc, arith}
 use Rattle.std.specs.Prelude.{max, ◌↔◌}
 use Rattle.p8_tree.specs.Statements as trees
-use Rattle.p8_tree.specs.Statements.{statement, Statements, no_statements, ◌▹◌, Arms, ◌⊳◌, nothing_else}
+use Rattle.p8_tree.specs.Statements.{statement, Statements, no_statements, ◌▹◌, Arms, nothing_else}
 use Rattle.p8_columns.specs.Lines.{Kind, Plain, If, ElseIf, Else, Repeat, End, Case, Item, Other, Line, column, is_opener}
 use Rattle.p8_columns.specs.Columns.{open_for}
 use Rattle.p8_columns.specs.Blocks.{Bound, UpTo, Contents, body, choices, Block, chain, chain_on, AreStatements}

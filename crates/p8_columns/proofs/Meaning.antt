@@ -4,7 +4,7 @@ use Rattle.std.specs.Prelude.{IsTrue}
 use Rattle.std.specs.List.{last_or}
 use Rattle.std.proofs.lemmas.Bool.{cases_lt}
 use Rattle.p8_tree.specs.Statements as trees
-use Rattle.p8_tree.specs.Statements.{no_statements, ◌▹◌, nothing_else}
+use Rattle.p8_tree.specs.Statements.{no_statements, nothing_else}
 use Rattle.p8_columns.specs.Lines.{Kind, Plain, If, ElseIf, Else, Repeat, End, Case, Item, Other, Line, column, is_arm, is_plain_repeat, is_case}
 use Rattle.p8_columns.specs.Columns.{OpenBlock, open_for, innermost, last_up_to, IsAt, HasOther, HasRoom, FitsAs, Fits, FitAfter}
 use Rattle.p8_columns.specs.declared.room.Room.TheVariants as room_case

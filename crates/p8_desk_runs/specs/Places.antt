@@ -1,6 +1,6 @@
 -- internal
 -- Passes that are out of their set, each at its cog's place.
-use Rattle.std.specs.Prelude.{ℕ, ◌≡◌, ◌<◌, Option, Some, None}
+use Rattle.std.specs.Prelude.{◌≡◌, Option, Some, None}
 use Rattle.p8_desk.specs.Passes.{DeskValue, PassValue, Owns}
 
 -- what is at a place is a pass that the desk owns

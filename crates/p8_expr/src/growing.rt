@@ -17,6 +17,7 @@ use crate::parts::{Use, taken};
 use crate::value::quoted;
 use p8_grammar::{Access, Lexeme, Punctuation, Setting};
 use p8_tree::{ExprKind, Place, Text};
+use p8_words::ADD;
 use std::alloc::{AllocError, Global};
 use std::mem;
 
@@ -525,12 +526,13 @@ impl Form {
         }
     }
 
+    // With an operator before a variable, which it changes.
     fn alter(&mut self, place: Place, code: u8) -> Grown
         requires { shape_of self.old ≡ fresh }
         ensures comes { (s : lexemes.Setting) → lexemes.is_value s ≡ false → Grows (altering s place (effect_of (unary 1 code))) self.old result self.new }
         ensures tall { IsTall self.old → IsTallAs result self.new }
     {
-        if code == 0xEC {
+        if code == ADD {
             return Grown::Not;
         }
         self.parts.usage = Use::Changing(place, code.saturating_sub(0xA0));

@@ -1,6 +1,6 @@
 -- What the reader keeps stands for the tokens that it has read.
 use Rattle.std.proofs.Common.{◌≡◌, ℕ, zero, suc, ◌+◌, ◌*◌, ◌<◌, ◌≤◌, List, [], ◌∷◌, ◌++◌, Option, Some, None, Bool, true, false, refl, sym, ap, ◌∙◌, subst, arith, append_assoc, append-nil}
-use Rattle.std.specs.Prelude.{option_and_then, IsTrue, if◌then◌else◌, not, ◌&&◌, nat_lt, nat_le, ◌-◌}
+use Rattle.std.specs.Prelude.{option_and_then, IsTrue, if◌then◌else◌, not, ◌&&◌, nat_lt, nat_le}
 use Rattle.p8_tree.specs.declared.places.Place.{Place}
 use Rattle.p8_tree.specs.Expressions.{Tree, node, Number, Variable}
 use Rattle.p8_grammar.specs.Lexemes.{Setting, is_value, is_dat, inside, behind, Access, is_written, Mark, equal, Lexeme, string, mark, assigns, plain, token, Token}

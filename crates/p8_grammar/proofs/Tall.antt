@@ -1,6 +1,6 @@
 -- Reading on never lowers the least height.
 use Rattle.std.proofs.Common.{◌≡◌, ℕ, zero, suc, ◌+◌, ◌*◌, ◌<◌, ◌≤◌, max, List, [], ◌∷◌, Option, Some, None, Bool, true, false, refl, sym, ap, ◌∙◌, subst, arith}
-use Rattle.std.specs.Prelude.{option_and_then, IsTrue, if◌then◌else◌, not, ◌&&◌, nat_lt, nat_le, ◌-◌}
+use Rattle.std.specs.Prelude.{option_and_then, IsTrue, if◌then◌else◌, not, ◌&&◌, nat_lt, nat_le}
 use Rattle.p8_tree.specs.declared.places.Place.{Place}
 use Rattle.p8_tree.specs.Expressions.{Tree, node, Number, Variable, Part, Memory, Register, no_index, whole, single, Trees, no_trees, ◌▷◌, Items, ◌▸◌}
 use Rattle.p8_grammar.specs.Lexemes.{Setting, in_method, is_value, allows_index, is_dat, inside, behind, Access, is_written, has_bits, is_in, Mark, left_parenthesis, right_parenthesis, left_bracket, right_bracket, comma, colon, dot, dot_dot, hash, backslash, equal, Lexeme, number, name, method_result, string, mark, prefix_word, sign, assigns, changes, address, size, register, here, string_word, constant_word, look, value, built_in, command, reserved, token, Token}

@@ -1,5 +1,5 @@
 -- Forms of which a rule says nothing.
-use Rattle.std.proofs.Common.{◌≡◌, ℕ, false, List, [], None, refl, ◌∙◌}
+use Rattle.std.proofs.Common.{◌≡◌, ℕ, false, List, [], None, refl}
 use Rattle.p8_tree.specs.declared.places.Place.{Place}
 use Rattle.p8_tree.specs.declared.expressions.ExprKind as kind
 use Rattle.p8_tree.specs.declared.expressions.Target.{Target}

@@ -1,6 +1,6 @@
 -- The rules: what is accepted and is most likely a slip of the pen, and what isn't told because it may be meant (this project's profile; what the lines do is
 -- from the Propeller Manual v1.2).
-use Rattle.std.specs.Prelude.{ℕ, ◌*◌, ◌-◌, nat_lt, Bool, true, false, ◌==◌, ◌&&◌, ◌||◌, not, List, [], ◌∷◌, ◌++◌, length, drop, codes}
+use Rattle.std.specs.Prelude.{ℕ, ◌-◌, nat_lt, Bool, true, false, ◌==◌, ◌&&◌, ◌||◌, not, List, [], ◌∷◌, ◌++◌, length, drop, codes}
 use Rattle.std.specs.Prelude.{Option, Some, None, is_some, if◌then◌else◌}
 use Rattle.std.specs.List.{flat_map}
 use Rattle.std.specs.Str.{bytes_eq}

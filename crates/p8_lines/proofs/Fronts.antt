@@ -1,7 +1,7 @@
 -- No expression begins with a token that has an arrow beside it, and none goes on with a token that may stand
 -- after it.
 use Rattle.std.proofs.Common.{◌≡◌, ℕ, ◌<◌, length, List, [], ◌∷◌, ◌++◌, Option, Some, None, Bool, true, false, refl, sym, ap, ◌∙◌, subst, arith}
-use Rattle.std.specs.Prelude.{IsTrue, if◌then◌else◌, option_and_then}
+use Rattle.std.specs.Prelude.{IsTrue, option_and_then}
 use Rattle.p8_tree.specs.declared.places.Place.{Place}
 use Rattle.p8_tree.specs.Expressions.{Tree, Variable, Part, Memory, Register, no_index as without_index, whole as whole_register}
 use Rattle.p8_lexer.specs.declared.word.Word.{Word}

@@ -1,6 +1,6 @@
 -- The tokens of a text, one after the other, and the longest run of them that begins an expression.
 use Rattle.std.proofs.Common.{◌≡◌, ℕ, zero, suc, ◌+◌, ◌<◌, ◌≤◌, length, take, drop, List, [], ◌∷◌, ◌++◌, Option, Some, None, refl, sym, ap, ◌∙◌, subst, arith, add-one}
-use Rattle.std.specs.Prelude.{map, slice_get, option_map, option_and_then, unwrap_or, if◌then◌else◌}
+use Rattle.std.specs.Prelude.{map, slice_get, option_map, option_and_then, unwrap_or}
 use Rattle.std.proofs.lemmas.Option.{slice_get_within}
 use Rattle.std.proofs.lemmas.List.{take-append-drop, length-map, length-drop}
 use Rattle.p8_tree.specs.declared.places.Place.{Place}

@@ -1,5 +1,5 @@
 -- The words behind the colon of a local label: names, and reserved words with their characters.
-use Rattle.std.proofs.Common.{◌≡◌, ℕ, ◌<◌, ◌≤◌, ◌⊎◌, inl, inr, Bool, true, false, List, [], ◌∷◌, map, Option, Some, None, refl, sym, ap, ◌∙◌, subst}
+use Rattle.std.proofs.Common.{◌≡◌, ℕ, ◌⊎◌, inl, inr, Bool, true, false, List, [], ◌∷◌, map, Option, Some, None, refl, sym, ap, ◌∙◌, subst}
 use Rattle.std.specs.Prelude.{◌&&◌, if◌then◌else◌, not, IsTrue, slice_index, slice_get, unwrap_or}
 use Rattle.std.specs.List.{list_all}
 use denote.Enum.Declared.{tag_of}

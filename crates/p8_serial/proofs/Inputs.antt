@@ -1,5 +1,5 @@
 -- A pin that no cog drives has the level of the script.
-use Rattle.std.proofs.Common.{◌≡◌, ◌∙◌, ap, sym, refl, ℕ, zero, suc, ◌+◌, ◌-◌, ◌^◌, ◌%◌, ◌==◌, ◌<◌, ◌≤◌, false, List, [], ◌∷◌, max, bit_and, bit_xor, arith}
+use Rattle.std.proofs.Common.{◌≡◌, ◌∙◌, ap, sym, refl, ℕ, zero, suc, ◌-◌, ◌^◌, ◌==◌, ◌<◌, false, List, [], ◌∷◌, max, bit_and, bit_xor, arith}
 use Rattle.std.specs.Int.{bit_at}
 use Rattle.std.proofs.lemmas.Nat.Bits.{bit_at_and, bit_at_or, bit_at_xor, bit_at_ones, bit_at-lt}
 use Rattle.p8_access.specs.declared.order.Turn.{Turn}

@@ -9,7 +9,7 @@ use Rattle.p8_tree.specs.declared.expressions.ExprKind as kind
 use Rattle.p8_tree.specs.declared.expressions.ExprKind.{ExprKind}
 use Rattle.p8_tree.specs.declared.expressions.ExprKind.TheVariants as kind_case
 use Rattle.p8_tree.specs.Expressions as trees
-use Rattle.p8_tree.specs.Expressions.{node, Var, ◌▷◌, ◌▸◌, Call}
+use Rattle.p8_tree.specs.Expressions.{node, Var, ◌▸◌, Call}
 use Rattle.p8_tree.specs.Views.{items_of, item_of, form_of, variable_of}
 use Rattle.p8_statements.specs.Statements.{counter}
 use Rattle.p8_tree.specs.Bridges.{items_of-push}

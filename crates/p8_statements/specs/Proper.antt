@@ -1,5 +1,5 @@
 -- What a line of a method satisfies whose names and expressions are proper.
-use Rattle.std.specs.Prelude.{◌≡◌, ℕ, Bool, true, false, if◌then◌else◌, not, IsTrue, List, ◌∷◌, Some}
+use Rattle.std.specs.Prelude.{◌≡◌, Bool, true, false, not, IsTrue, List, ◌∷◌, Some}
 use Rattle.p8_tree.specs.Expressions.{Tree}
 use Rattle.p8_tree.specs.Proper.{greatest_height, IsDone, IsProperExpression, IsProperAction, IsProperCourse, AreProperTests, is_no_item}
 use Rattle.p8_columns.specs.Lines.{Kind, Plain, If, ElseIf, Else, Repeat, End, Case, Item, Other}

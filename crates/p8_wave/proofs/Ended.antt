@@ -1,5 +1,5 @@
 -- What ended a run, by its turns from the oldest on, and how many characters that has.
-use Rattle.std.proofs.Common.{◌≡◌, ◌∙◌, sym, ap, ap₂, refl, ℕ, ◌+◌, ◌≤◌, nat_eq, if◌then◌else◌, Bool, true, false, List, ◌++◌, codes, length, length-append, reverse, arith}
+use Rattle.std.proofs.Common.{◌≡◌, ◌∙◌, sym, ap, ap₂, refl, ℕ, ◌≤◌, nat_eq, if◌then◌else◌, Bool, true, false, List, ◌++◌, codes, length, length-append, reverse, arith}
 use Rattle.std.specs.Fmt.{decimal}
 use Rattle.std.proofs.lemmas.Fmt.{length-decimal-le}
 use Rattle.std.proofs.lemmas.List.{length-reverse}

@@ -1,4 +1,4 @@
-use Rattle.std.proofs.Common.{◌≡◌, ◌∙◌, ◌<◌, ℕ, arith}
+use Rattle.std.proofs.Common.{◌∙◌, ◌<◌, arith}
 use Rattle.p8_desk_runs.proofs.Spreading.{all-owned, kept-there, all-back}
 use Rattle.p8_desk_runs.proofs.threads.turn_in_threads.Goals as goal
 

@@ -1,4 +1,4 @@
-use Rattle.std.proofs.Common.{◌≡◌, ◌∙◌, ℕ, ap}
+use Rattle.std.proofs.Common.{◌≡◌, ◌∙◌, ap}
 use Rattle.p8_constants.specs.Standing.{items_of}
 use Rattle.p8_hint.specs.Rules.{reached_in, times_in}
 use Rattle.p8_hint.specs.FileFacts.{exposed_in, needed_in, spots_of_items}

@@ -1,4 +1,4 @@
-use Rattle.std.proofs.Common.{◌≡◌, ◌∙◌, sym}
+use Rattle.std.proofs.Common.{◌∙◌, sym}
 use Rattle.p8_hint.proofs.Lined.{line_inside, line_else}
 use Rattle.p8_hint.proofs.lines.line_in.Goals as goal
 

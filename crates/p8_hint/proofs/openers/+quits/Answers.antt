@@ -1,4 +1,4 @@
-use Rattle.std.proofs.Common.{◌≡◌, ◌∙◌, ◌||◌, ap, ap₂}
+use Rattle.std.proofs.Common.{◌∙◌, ◌||◌, ap, ap₂}
 use Rattle.p8_hint.proofs.Following.{quit_next, arms_quit_next, arm_quit, if_quits_none, if_quits_some, case_quits_none, case_quits_some}
 use Rattle.p8_hint.proofs.openers.+quits.Goals as goal
 

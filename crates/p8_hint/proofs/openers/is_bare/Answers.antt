@@ -1,4 +1,4 @@
-use Rattle.std.proofs.Common.{◌≡◌, ◌∙◌, ◌&&◌, ap₂}
+use Rattle.std.proofs.Common.{◌∙◌, ◌&&◌, ap₂}
 use Rattle.p8_hint.proofs.Following.{if_bare, repeat_bare}
 use Rattle.p8_hint.proofs.openers.is_bare.Goals as goal
 

@@ -1,4 +1,4 @@
-use Rattle.std.proofs.Common.{◌≡◌, ◌∙◌, ◌&&◌, ap₂}
+use Rattle.std.proofs.Common.{◌∙◌, ◌&&◌, ap₂}
 use Rattle.p8_hint.proofs.Following.{repeat_endless}
 use Rattle.p8_hint.proofs.openers.is_endless.Goals as goal
 

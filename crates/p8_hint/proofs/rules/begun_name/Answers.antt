@@ -1,4 +1,4 @@
-use Rattle.std.proofs.Common.{◌≡◌, ◌∙◌, ap, sym}
+use Rattle.std.proofs.Common.{◌∙◌, ap, sym}
 use Rattle.p8_tree.specs.Expressions.{node}
 use Rattle.p8_tree.specs.Views.{form_of}
 use Rattle.p8_fold.proofs.ValueRows.{call_form}

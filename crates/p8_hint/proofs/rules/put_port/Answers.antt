@@ -1,4 +1,4 @@
-use Rattle.std.proofs.Common.{◌≡◌, ◌∙◌, ◌++◌, ap, sym, append-nil}
+use Rattle.std.proofs.Common.{◌∙◌, ◌++◌, ap, sym, append-nil}
 use Rattle.p8_hint.proofs.Others.{port_other}
 use Rattle.p8_hint.proofs.rules.put_port.Goals as goal
 

@@ -1,4 +1,4 @@
-use Rattle.std.proofs.Common.{◌≡◌, ◌∙◌, ◌++◌, ap, sym, append-nil}
+use Rattle.std.proofs.Common.{◌∙◌, ◌++◌, ap, sym, append-nil}
 use Rattle.p8_hint.specs.Tables.{facts_of}
 use Rattle.p8_hint.proofs.Others.{stack_other}
 use Rattle.p8_hint.proofs.rules.put_stack.Goals as goal

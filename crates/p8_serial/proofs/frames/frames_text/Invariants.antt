@@ -1,4 +1,4 @@
-use Rattle.std.proofs.Common.{◌≡◌, ◌+◌, ◌≤◌, length}
+use Rattle.std.proofs.Common.{◌+◌, ◌≤◌, length}
 use Rattle.p8_access.specs.Worlds.{level_at}
 use Rattle.p8_pins.specs.Levels.{is_high}
 use Rattle.p8_pins.specs.LevelChanges.{lines_of}

@@ -1,4 +1,4 @@
-use Rattle.std.proofs.Common.{◌≡◌, ◌∙◌, ap, sym, ℕ, ◌+◌, ◌*◌, ◌/◌, ◌^◌, ◌%◌, Bool, if◌then◌else◌, arith}
+use Rattle.std.proofs.Common.{◌≡◌, ◌∙◌, ap, sym, ℕ, ◌+◌, ◌*◌, ◌/◌, ◌^◌, Bool, if◌then◌else◌, arith}
 use Rattle.p8_serial.specs.Receiving.{level_in}
 use Rattle.p8_serial.proofs.Receiving.{next-bit, next-passed, bit-fits, bit-whole}
 use Rattle.p8_serial.proofs.frames.receive_byte.Goals.{then-level, else-level}

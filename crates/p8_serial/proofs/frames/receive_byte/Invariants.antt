@@ -1,4 +1,4 @@
-use Rattle.std.proofs.Common.{◌≡◌, ◌+◌, ◌*◌, ◌/◌, ℕ}
+use Rattle.std.proofs.Common.{◌≡◌, ◌+◌, ◌*◌, ◌/◌}
 use Rattle.p8_pins.specs.LevelChanges.{HasPassed}
 use Rattle.p8_serial.specs.Serial.{number_at}
 use Rattle.p8_serial.specs.Receiving.{level_in}

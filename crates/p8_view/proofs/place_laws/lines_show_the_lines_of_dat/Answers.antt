@@ -1,4 +1,4 @@
-use Rattle.std.proofs.Common.{◌≡◌, ◌∙◌, ap, ℕ, Option, length}
+use Rattle.std.proofs.Common.{◌∙◌, ap, ℕ, Option, length}
 use Rattle.p8_legend.specs.Legends.{place_text}
 use Rattle.p8_view.specs.View.{counter_of}
 use Rattle.p8_view.specs.Places.{line_with}

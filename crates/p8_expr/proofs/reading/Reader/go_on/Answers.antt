@@ -1,4 +1,4 @@
-use Rattle.std.proofs.Common.{◌-◌, ap, ◌∙◌}
+use Rattle.std.proofs.Common.{ap, ◌∙◌}
 use Rattle.std.specs.Prelude.{Some}
 use Rattle.p8_grammar.specs.Grammar.{infix_of}
 use Rattle.p8_expr.specs.Views.{frames_in}

@@ -1,5 +1,5 @@
 use Rattle.std.proofs.Common.{Some, None, ap, ◌∙◌}
-use Rattle.std.specs.Prelude.{map, ◌-◌, ◌∷◌}
+use Rattle.std.specs.Prelude.{map, ◌∷◌}
 use Rattle.p8_lexer.specs.Words.{capital}
 use Rattle.p8_tree.specs.Expressions.{node}
 use Rattle.p8_tree.specs.Views.{form_of}

@@ -1,4 +1,4 @@
-use Rattle.std.proofs.Common.{◌≡◌, ◌∙◌, ◌-◌, ap₂}
+use Rattle.std.proofs.Common.{◌∙◌, ◌-◌, ap₂}
 use Rattle.p8_hint.specs.Shown.{items_of, line_in}
 use Rattle.p8_hint.proofs.Lined.{not_zero, shown_is}
 use Rattle.p8_hint.proofs.lines.Lines.line.Goals as goal

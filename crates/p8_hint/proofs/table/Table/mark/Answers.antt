@@ -1,4 +1,4 @@
-use Rattle.std.proofs.Common.{◌≡◌, ◌∙◌, ℕ, ap}
+use Rattle.std.proofs.Common.{◌∙◌, ℕ, ap}
 use Rattle.std.specs.Str.{bytes_eq}
 use Rattle.p8_hint.specs.Rules.{after}
 use Rattle.p8_hint.specs.FileFacts.{and_code}
