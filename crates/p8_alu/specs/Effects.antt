@@ -4,6 +4,7 @@
 use Rattle.std.specs.Prelude.{ℕ, ◌+◌, ◌-◌, ◌*◌, ◌/◌, ◌%◌, ◌^◌, min, max, Bool, false, not, ◌&&◌, ◌||◌, ℤ, pos, ◌+ℤ◌, ◌-ℤ◌, neg_ℤ, unsigned_abs}
 use Rattle.std.specs.Prelude.{int_lt, nat_lt, nat_le, ◌==◌, if◌then◌else◌, bit_and, bit_or, bit_xor, List, [], ◌∷◌}
 use Rattle.std.specs.Int.{from_bool}
+use Rattle.p8_words.specs.Operators.{is_below}
 use Rattle.p8_words.specs.Words.{word_of, signed_value, shifted_left, shifted_right, shifted_right_signed, rotated_left, rotated_right, reversed, has_odd_ones}
 use Rattle.p8_alu.specs.declared.effect.Effect.{Effect}
 
@@ -37,10 +38,6 @@ difference a b = word_of (pos a -ℤ pos b)
 
 abbrev pub negated : ℕ → ℕ
 negated a = word_of (neg_ℤ (pos a))
-
--- the signed reading of a is below that of b
-abbrev pub is_below_signed : ℕ → ℕ → Bool
-is_below_signed a b = int_lt (signed_value a) (signed_value b)
 
 -- a whole number is no signed word
 abbrev pub overflows : ℤ → Bool
@@ -96,8 +93,8 @@ rows d s c z next =
     (14, plain_effect (shifted_right_signed d (s % 32)) (is_set d 0)) ∷
     (15, plain_effect (shifted_right (reversed d) (s % 32)) (is_set d 0)) ∷
     -- MINS, MAXS, MIN, MAX
-    (16, comparison_effect (if is_below_signed d s then s else d) (is_below_signed d s) (d == s)) ∷
-    (17, comparison_effect (if is_below_signed d s then d else s) (is_below_signed d s) (d == s)) ∷
+    (16, comparison_effect (if is_below d s then s else d) (is_below d s) (d == s)) ∷
+    (17, comparison_effect (if is_below d s then d else s) (is_below d s) (d == s)) ∷
     (18, comparison_effect (max d s) (nat_lt d s) (d == s)) ∷
     (19, comparison_effect (min d s) (nat_lt d s) (d == s)) ∷
     -- MOVS, MOVD, MOVI, JMPRET
@@ -136,7 +133,7 @@ rows d s c z next =
     (46, plain_effect (if z then negated s else s) (is_set s 31)) ∷
     (47, plain_effect (if not z then negated s else s) (is_set s 31)) ∷
     -- CMPS, CMPSX
-    (48, plain_effect (difference d s) (is_below_signed d s)) ∷
+    (48, plain_effect (difference d s) (is_below d s)) ∷
     (49, z_kept z (extended_comparison_effect d s c)) ∷
     -- ADDX, SUBX, ADDS, SUBS, ADDSX, SUBSX
     (50, z_kept z (sum_effect (d + s + from_bool c))) ∷

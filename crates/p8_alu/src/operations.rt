@@ -2,7 +2,7 @@
 ghost use Rattle.std.specs.Prelude.{◌≡◌, ◌-◌, ◌<◌, nat_le, if◌then◌else◌, bit_and, bit_or};
 ghost use Rattle.p8_words.specs.Words.{shifted_right_signed, rotated_left, rotated_right};
 ghost use Rattle.p8_alu.specs.Effects.{is_set, shifted_right_filling, shifted_left_filling, with_bits, inverted, absolute, negated, difference};
-ghost use Rattle.p8_alu.specs.Effects.{is_below_signed};
+ghost use Rattle.p8_words.specs.Operators.{is_below};
 
 #[inline]
 pub fn rotated_right(a: u32, n: u32) -> u32
@@ -104,7 +104,7 @@ pub fn negated_where(flag: bool, a: u32) -> u32
 
 #[inline]
 pub fn is_below_signed(a: u32, b: u32) -> bool
-    ensures { result ≡ is_below_signed a b }
+    ensures { result ≡ is_below a b }
 {
     a.cast_signed() < b.cast_signed()
 }
@@ -120,7 +120,7 @@ pub fn with_mask(flag: bool, a: u32, b: u32) -> u32
 /// The one of two words whose signed reading is the greater.
 #[inline]
 pub fn greater_signed(a: u32, b: u32) -> u32
-    ensures { result ≡ (if is_below_signed a b then b else a) }
+    ensures { result ≡ (if is_below a b then b else a) }
 {
     if is_below_signed(a, b) { b } else { a }
 }
@@ -128,7 +128,7 @@ pub fn greater_signed(a: u32, b: u32) -> u32
 /// The one of two words whose signed reading is the lesser.
 #[inline]
 pub fn lesser_signed(a: u32, b: u32) -> u32
-    ensures { result ≡ (if is_below_signed a b then a else b) }
+    ensures { result ≡ (if is_below a b then a else b) }
 {
     if is_below_signed(a, b) { a } else { b }
 }

@@ -25,5 +25,5 @@ mod variable_access;
 mod variable_place;
 mod variables;
 
-pub use spin::SpinCog;
+pub use spin::{SpinCog, is_access};
 pub use stack::STACK_LONGS;

@@ -61,7 +61,7 @@ pub struct SpinCog {
 
 /// Whether an answer announces an access.
 #[inline(always)]
-fn is_access(next: Next) -> bool
+pub fn is_access(next: Next) -> bool
     ensures { result ≡ is_access next }
 {
     match next {

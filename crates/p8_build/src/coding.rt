@@ -14,6 +14,7 @@ use crate::text_numbers::TextNumbers;
 use p8_gen::Tables;
 use p8_image::MethodPart;
 use p8_kinds::Kinds;
+use p8_names::number_behind;
 use p8_stmt::{MethodCode, method_code};
 use p8_tree::{Fault, List, Method, Refusal, Text, first_of_two};
 use p8_words::{Fail, NoMemory};
@@ -103,16 +104,6 @@ fn add_code(
             Ok(())
         }
         Err(Fail::NoMemory) => Err(NoMemory),
-    }
-}
-
-/// The number of the method with this index.
-pub(crate) fn number_behind(index: usize) -> Result<u32, NoMemory>
-    ensures { IfOk result (λ number. number ≡ index + 1) }
-{
-    match u32::try_from(index) {
-        Ok(index) if index < u32::MAX => Ok(index + 1),
-        _ => Err(NoMemory),
     }
 }
 

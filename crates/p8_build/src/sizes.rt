@@ -8,10 +8,10 @@ ghost use Rattle.p8_build.specs.Measuring.{IsFirstSize, of_method_size, IfSizeAt
 ghost use Rattle.p8_build.specs.Phases.{image_size, names_size};
 
 use crate::callers::arguments_at;
-use crate::coding::number_behind;
 use p8_gen::Tables;
 use p8_image::{ObjectPart, frame_end};
 use p8_kinds::{Children, Kinds};
+use p8_names::number_behind;
 use p8_stmt::{MethodSize, method_size};
 use p8_tree::{Fault, Method, Place, Refusal, SourceFile};
 use p8_words::NoMemory;

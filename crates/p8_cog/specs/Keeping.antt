@@ -22,7 +22,8 @@ use Rattle.p8_cog.specs.declared.stage.PasmStage.TheVariants.{Loading, Running, 
 use Rattle.p8_cog.specs.Replay.{instruction, played, Outcome, Asks, Goes, Ends, step, after, first_with, loading, loaded_by, replayed, IsAsked}
 use Rattle.p8_cog.specs.Replay.{BeginsAt, Begins}
 use Rattle.p8_cog.specs.Standing.{turns_of, running_at, standing_at, IsReading, StandsIn, StandsFor, clock_in, clock_of}
-use Rattle.p8_cog.specs.Stops.{IsFrom, is_half, IsHalf, IsInLoad, Comes, Announces, is_access, asked_of, asked_now, announced_at, Stops, Leads}
+use Rattle.p8_cog.specs.Stops.{IsFrom, is_half, IsHalf, IsInLoad, Comes, Announces, asked_of, asked_now, announced_at, Stops, Leads}
+use Rattle.p8_bcog.specs.Stops.{is_access}
 use Rattle.p8_cog.specs.Stops.{IsSpent, IsTold, Loads, Takes, is_asking}
 use Rattle.p8_cog.specs.Replaying.{on-time, begin-asks, after-one, after-plus, after-asks, step-from, after-from, turn-kept, turn-taken, not-before}
 use Rattle.p8_cog.specs.Reaching.{begin-near, last-ends, ended-behind}

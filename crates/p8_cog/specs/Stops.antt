@@ -72,10 +72,6 @@ IsMadeIn Ended = Unit {0}
 IsMadeIn Whole = Unit {0}
 IsMadeIn (Half clock access) = IsMade access
 
-abbrev pub IsMadeIf : Option Access → Type 0
-IsMadeIf None = Unit {0}
-IsMadeIf (Some access) = IsMade access
-
 -- the latest clock of some turns
 abbrev pub latest : List Turn → ℕ
 latest [] = 0
@@ -118,12 +114,6 @@ Comes o turn =
 -- a load has a register to read next, and no instruction is at hand
 abbrev pub IsInLoad : Progress → Type 0
 IsInLoad p = (p.begun.at < 496) × (is_half p.had ≡ false)
-
--- whether an access is told
-abbrev pub is_access : Next → Bool
-is_access (At clock access) = true
-is_access Quiet = false
-is_access (More bound) = false
 
 abbrev pub asked_of : Outcome → Option (ℕ × Access)
 asked_of (Asks clock access) = Some (clock, access)

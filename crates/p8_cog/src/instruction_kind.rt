@@ -1,7 +1,8 @@
 // How an instruction is carried out.
 ghost use Rattle.std.specs.Prelude.{◌≡◌, ◌<◌, ◌≤◌, ◌⊎◌};
 ghost use Rattle.p8_cog.specs.Instructions.{executed_kind, kind_of, source_access};
-ghost use Rattle.p8_cog.specs.Stops.{IsComputed, IsMadeIf};
+ghost use Rattle.p8_cog.specs.Stops.{IsComputed};
+ghost use Rattle.p8_bcog.specs.Ready.{IsMadeIf};
 
 use p8_access::Access;
 use p8_instr::{ALWAYS, Instr};

@@ -9,7 +9,8 @@ ghost use Rattle.p8_cog.specs.declared.state.PasmState.{PasmState};
 ghost use Rattle.p8_cog.specs.Replay.{at_hand, source_value, destination_value, effect, fetched_before, fetched_after, next_of, computed, compute};
 ghost use Rattle.p8_cog.specs.Replay.{register_access, result_access, written_by, answered, ends_after, use_hub, is_port_wait, test_of, wait_effect};
 ghost use Rattle.p8_cog.specs.Replay.{wait, halt, does, instruction, hub_request, played, Goes, Asks};
-ghost use Rattle.p8_cog.specs.Stops.{ComesTo, Keeps, IsMadeIn, IsMadeIf, IsAtHub, Comes, is_asking, latest};
+ghost use Rattle.p8_cog.specs.Stops.{ComesTo, Keeps, IsMadeIn, IsAtHub, Comes, is_asking, latest};
+ghost use Rattle.p8_bcog.specs.Ready.{IsMadeIf};
 
 use crate::ending::Ending;
 use crate::hub::{Request, answered, hub_request, is_last, plain_effect};

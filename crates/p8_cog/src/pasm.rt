@@ -9,7 +9,7 @@ ghost use Rattle.p8_cog.specs.Counters.{IsCounterOf};
 ghost use Rattle.p8_cog.specs.declared.stage.PasmStage.TheVariants.{Loading};
 ghost use Rattle.p8_cog.specs.Replay.{IsAsked, Begins, step};
 ghost use Rattle.p8_cog.specs.Standing.{StandsFor, clock_of, standing_at};
-ghost use Rattle.p8_cog.specs.Stops.{Announces, IsAtHub, IsHalf, IsInLoad, announced_at, is_access, is_asking};
+ghost use Rattle.p8_cog.specs.Stops.{Announces, IsAtHub, IsHalf, IsInLoad, announced_at, is_asking};
 ghost use Rattle.p8_cog.specs.Replaying.{one-asked, asked-first, asked-later};
 
 use crate::counters::loaded_from;
@@ -19,6 +19,7 @@ use crate::progress::{Had, Progress};
 use crate::stage::PasmStage;
 use crate::state::PasmState;
 use p8_access::{Life, Next, Ram, Turn};
+use p8_bcog::is_access;
 use p8_words::NoMemory;
 use std::alloc::Global;
 
@@ -51,17 +52,6 @@ pub struct Cog {
     ghost loads: { stage ≡ Loading → IsInLoad state },
     ghost announces: { Announces cog code stage state (announced_at asking cog code stage state) },
     ghost told: { asking ≡ true → is_asking (step cog (standing_at stage code state)) ≡ true },
-}
-
-/// Whether an answer announces an access.
-#[inline(always)]
-fn is_access(next: Next) -> bool
-    ensures { result ≡ is_access next }
-{
-    match next {
-        Next::At { .. } => true,
-        Next::Quiet | Next::More { .. } => false,
-    }
 }
 
 impl Cog {

@@ -34,7 +34,8 @@ use Rattle.p8_ledger.proofs.Settling.{start-sits, begun-same}
 use Rattle.p8_ledger.specs.declared.steps.Step.TheVariants.{Took, Said}
 use Rattle.p8_ledger.specs.Records.{Record, turns, said}
 use Rattle.p8_desk.specs.declared.runner.Runner.{Runner}
-use Rattle.p8_desk.specs.Runners.{reached_in, pace_in, stride_in, most_in, place_in, announced_in, Lives, Rides, Comes, GoesOnFrom, IsNear, HasTaken}
+use Rattle.p8_desk.specs.Runners.{reached_in, pace_in, stride_in, most_in, place_in, Lives, Rides, Comes, GoesOnFrom, IsNear, HasTaken}
+use Rattle.p8_cog.specs.WholeLives.{announced_in}
 use Rattle.p8_desk.specs.Tries.{GoesOn}
 use Rattle.p8_desk.proofs.Lookups.{test-same}
 use Rattle.p8_desk.proofs.Riding.{nothing-runs}

@@ -7,15 +7,13 @@ use Rattle.p8_access.specs.declared.lives.Next.{Next}
 use Rattle.p8_access.specs.declared.lives.Next.TheVariants.{At, Quiet, More}
 use Rattle.p8_access.specs.Lives.{Begun, Tells, announced_by, IsMadeNext, IsAnnounced}
 use Rattle.p8_access.specs.Proper.{IsProperOrigin}
-use Rattle.p8_bcog.specs.Stops as Bytecodes
 use Rattle.p8_cog.specs.Standing.{clock_of}
-use Rattle.p8_cog.specs.Stops as Instructions
 use Rattle.p8_access.specs.declared.states.CogState.{CogState}
 use Rattle.p8_access.specs.Worlds.{World}
 use Rattle.p8_access.specs.Hub.{cog_state, origin_of}
 use Rattle.p8_access.specs.Histories.{Extends}
 use Rattle.p8_cog.specs.declared.cog_life.CogLife.{CogLife}
-use Rattle.p8_cog.specs.Kinds.{number_of, access_of}
+use Rattle.p8_cog.specs.Kinds.{number_of}
 use Rattle.p8_cog.specs.Lives.{asks}
 use Rattle.p8_cog.specs.WholeLives as Life
 use Rattle.p8_ledger.specs.Seats.{SitsIn}
@@ -52,18 +50,12 @@ IsNear reached (At clock access) = Unit {0}
 IsNear reached Quiet = Unit {0}
 IsNear reached (More bound) = (bound ≤ reached + 1) × (reached ≤ bound + 8192)
 
--- the access that a life has announced
-abbrev pub announced_in : CogLife → Option (ℕ × Access)
-announced_in life =
-    access_of life.kind (Instructions.announced_at life.pasm.asking life.pasm.cog life.pasm.code life.pasm.stage life.pasm.state)
-    (Bytecodes.announced_at life.spin.asking life.spin.cog life.spin.stage life.spin.state life.spin.clock)
-
 -- the life of a running cog: it stands for what it began with and its turns; what it has found is true, and goes
 -- on from what the cog has said last
 pub record Lives (limit : ℕ) (runner : Runner) (last : Next) (b : Begun) (ts : List Turn) : Type 0 where
   pub stood : Life.stands_for runner.life b ts
   pub told : Tells (asks b ts) limit runner.next
-  pub announced : announced_in runner.life ≡ announced_by runner.next
+  pub announced : Life.announced_in runner.life ≡ announced_by runner.next
   pub near : IsNear (reached_in runner.life) runner.next
   pub goes_on : runner.said ≡ false → GoesOnFrom (pace_in runner.life) (most_in runner.life) limit last runner.next
 

@@ -23,7 +23,8 @@ use Rattle.p8_ledger.specs.Seats.{Sits, SitsIn}
 use Rattle.p8_ledger.specs.Records.{Record, turns, said}
 use Rattle.p8_ledger.proofs.Stepping.{reverse-push}
 use Rattle.p8_ledger.proofs.Rows.{some-at, set-there, set-else}
-use Rattle.p8_machine.specs.Places.{announced_in, IsSpoken, SameBut, HasAnnounced, AreAnnounced}
+use Rattle.p8_machine.specs.Places.{IsSpoken, SameBut, HasAnnounced, AreAnnounced}
+use Rattle.p8_cog.specs.WholeLives.{announced_in}
 use Rattle.p8_machine.specs.Standing.{has_spoken, Stands, Comes}
 
 none-some : {A : Type 0} → (asked : ℕ × Access) → None ≡ Some asked → A

@@ -15,7 +15,7 @@ use Rattle.p8_bcog.specs.Counters.{IsAnnouncing}
 use Rattle.p8_cog.specs.Counters.{IsCounterOf}
 use Rattle.p8_cog.specs.declared.cog_life.CogLife.{CogLife}
 use Rattle.p8_cog.specs.Lives.{asks}
-use Rattle.p8_cog.specs.Stops.{is_access}
+use Rattle.p8_bcog.specs.Stops.{is_access}
 use Rattle.p8_cog.specs.WholeLives.{stands_for}
 use Rattle.p8_ledger.specs.declared.ledger.Ledger.{Ledger}
 use Rattle.p8_ledger.specs.Advances.{HasMade}
@@ -25,7 +25,8 @@ use Rattle.p8_ledger.specs.Records.{Record, turns, said}
 use Rattle.p8_ledger.proofs.Rows.{some-at}
 use Rattle.p8_machine.specs.Asked.{IsNextAsked}
 use Rattle.p8_machine.specs.Counted.{HasCounter, IsCounterIn}
-use Rattle.p8_machine.specs.Places.{announced_in, AreAnnounced, Counts, HasAnnounced}
+use Rattle.p8_machine.specs.Places.{AreAnnounced, Counts, HasAnnounced}
+use Rattle.p8_cog.specs.WholeLives.{announced_in}
 use Rattle.p8_machine.specs.Standing.{has_spoken, Stands}
 use Rattle.p8_machine.proofs.Announced.{is-announced}
 

@@ -7,18 +7,9 @@ use Rattle.p8_access.specs.declared.lives.Next.{Next}
 use Rattle.p8_access.specs.declared.lives.Next.TheVariants.{At, Quiet, More}
 use Rattle.p8_access.specs.Lives.{Begun, Tells, announced_by}
 use Rattle.p8_bcog.specs.Counters.{IsAnnouncing}
-use Rattle.p8_bcog.specs.Stops as Bytecodes
-use Rattle.p8_cog.specs.Stops as Instructions
 use Rattle.p8_cog.specs.declared.cog_life.CogLife.{CogLife}
 use Rattle.p8_cog.specs.Counters.{IsCounterOf}
-use Rattle.p8_cog.specs.Kinds.{access_of}
-use Rattle.p8_cog.specs.WholeLives.{stands_for}
-
--- the access that a life has announced
-abbrev pub announced_in : CogLife → Option (ℕ × Access)
-announced_in life =
-    access_of life.kind (Instructions.announced_at life.pasm.asking life.pasm.cog life.pasm.code life.pasm.stage life.pasm.state)
-    (Bytecodes.announced_at life.spin.asking life.spin.cog life.spin.stage life.spin.state life.spin.clock)
+use Rattle.p8_cog.specs.WholeLives.{stands_for, announced_in}
 
 -- what is said is the life's next access, or that none comes, and no promise
 abbrev pub IsSpoken : Next → Type 0

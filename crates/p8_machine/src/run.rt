@@ -7,7 +7,7 @@ ghost use Rattle.p8_access.specs.Histories.{Extends, IsOver, Ended as HasEnded, 
 ghost use Rattle.p8_access.specs.Hub.{cog_state};
 ghost use Rattle.p8_hub.specs.Standing.{IsHub};
 ghost use Rattle.p8_cog.specs.Lives.{asks};
-ghost use Rattle.p8_cog.specs.Stops.{is_access};
+ghost use Rattle.p8_bcog.specs.Stops.{is_access};
 ghost use Rattle.p8_ledger.specs.Advances.{HasMade};
 ghost use Rattle.p8_ledger.specs.Records.{Record};
 ghost use Rattle.p8_ledger.specs.Worlds.{world_of};

@@ -7,7 +7,8 @@ ghost use Rattle.p8_access.specs.Windows.{IsWindow};
 ghost use Rattle.p8_cog.specs.declared.cog_life.CogLife.{CogLife};
 ghost use Rattle.p8_cog.specs.Lives.{asks, begun_by, IsStartable};
 ghost use Rattle.p8_cog.specs.WholeLives.{cog_of};
-ghost use Rattle.p8_machine.specs.Places.{announced_in, IsSpoken, SameBut, HasAnnounced, Begins, Counts, Takes};
+ghost use Rattle.p8_machine.specs.Places.{IsSpoken, SameBut, HasAnnounced, Begins, Counts, Takes};
+ghost use Rattle.p8_cog.specs.WholeLives.{announced_in};
 
 use p8_access::{Key, Life, Next, Origin, Ram, Turn};
 use p8_cog::CogLife;

@@ -26,6 +26,7 @@ mod resolving;
 pub use beginning::constants_in;
 pub use child_laws::one_for_each_project;
 pub use finding::children_of;
+pub use method_list::number_behind;
 pub use own_kinds::numbered;
 pub use resolved_laws::{own_names_are_apart, resolved_constants_are_words};
 pub use resolving::{NameFault, resolve};

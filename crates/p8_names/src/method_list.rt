@@ -14,8 +14,8 @@ use p8_tree::{Fault, Method, first_of_two};
 use p8_words::NoMemory;
 use std::alloc::Global;
 
-/// The number that is one greater.
-pub(crate) fn number_behind(index: usize) -> Result<u32, NoMemory>
+/// The number of the method with this index: there is no memory for more methods than a number tells.
+pub fn number_behind(index: usize) -> Result<u32, NoMemory>
     ensures { IfOk result (λ number. number ≡ index + 1) }
 {
     match u32::try_from(index) {

@@ -9,6 +9,7 @@ ghost use Rattle.p8_opt.specs.Steps.{constants_by, CanBeFolded, AreFoldable, Are
 use p8_gen::Tables;
 use p8_kinds::Kinds;
 use p8_meaning::folded_body;
+use p8_names::number_behind;
 use p8_stmt::{MethodCode, short_code};
 use p8_tree::{List, Method};
 use p8_words::NoMemory;
@@ -46,16 +47,6 @@ fn short_method(
         (folded_body (constants_by tables.now) (method_of method.now).body)) }
 {
     let body = folded_body(alloc, &tables.consts, method.body.as_slice())?;
-    let number = number_of(index)?;
+    let number = number_behind(index)?;
     short_code(alloc, kinds, tables, method, number, body.as_slice())
-}
-
-/// The number of the method with this index: there is no memory for more methods than a number tells.
-fn number_of(index: usize) -> Result<u32, NoMemory>
-    ensures { IfOk result (λ number. number ≡ index + 1) }
-{
-    match u32::try_from(index) {
-        Ok(index) => index.checked_add(1).ok_or(NoMemory),
-        Err(_) => Err(NoMemory),
-    }
 }

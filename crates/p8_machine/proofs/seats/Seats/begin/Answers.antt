@@ -3,7 +3,8 @@ use Rattle.std.proofs.lemmas.List.{length-set}
 use Rattle.p8_cog.specs.declared.cog_life.CogLife.{CogLife}
 use Rattle.p8_cog.specs.Lives.{asks, begun_by}
 use Rattle.p8_ledger.proofs.Rows.{set-there, set-else}
-use Rattle.p8_machine.specs.Places.{announced_in, Begins}
+use Rattle.p8_machine.specs.Places.{Begins}
+use Rattle.p8_cog.specs.WholeLives.{announced_in}
 use Rattle.p8_machine.proofs.Rows.{own-set}
 use Rattle.p8_machine.proofs.seats.Seats.begin.Goals as goal
 

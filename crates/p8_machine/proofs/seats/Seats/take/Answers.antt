@@ -4,7 +4,8 @@ use Rattle.std.proofs.lemmas.Option.{slice_get_read}
 use Rattle.p8_cog.specs.declared.cog_life.CogLife.{CogLife}
 use Rattle.p8_cog.specs.Lives.{asks}
 use Rattle.p8_ledger.proofs.Rows.{set-there, set-else, same-there}
-use Rattle.p8_machine.specs.Places.{announced_in, Takes}
+use Rattle.p8_machine.specs.Places.{Takes}
+use Rattle.p8_cog.specs.WholeLives.{announced_in}
 use Rattle.p8_machine.proofs.Rows.{own-set}
 use Rattle.p8_machine.proofs.seats.Seats.take.Goals as goal
 
